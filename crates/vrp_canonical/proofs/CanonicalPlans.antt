@@ -34,11 +34,11 @@ GivesCanonical pool whole places = (p : Problem) (limit : ℕ) (stops : List (Li
 
 pub canonical_task : (p : Problem) (limit : ℕ) (narrowed ordered : List ListedRoute) (chosen : List Route) (unserved trucks found : ℕ)
     → IsProblem p → AreOrdered p limit narrowed → IsFleet p trucks → unserved ≡ set_of (customers p)
-    → IsCheapest (map route_of narrowed) unserved trucks (limit + 1) found chosen → found ≤ limit → AreOrdered p found ordered
+    → IsCheapest (map route_of narrowed) unserved trucks 0 (limit + 1) found chosen → found ≤ limit → AreOrdered p found ordered
     → IsTask p found (map stops_of ordered) (map route_of ordered) (record { unserved = unserved; trucks = trucks; most = found })
 canonical_task p limit narrowed ordered chosen unserved trucks found problem are_narrowed fleet all cheapest within are =
     let (plan, canonical, cost) = cheapest_canonical p limit (map stops_of narrowed) (map route_of narrowed) chosen trucks (limit + 1) found problem are_narrowed.pool_of fleet within
-    (subst (λ n. IsCheapest (map route_of narrowed) n trucks (limit + 1) found chosen) all cheapest) (omega (arith, within)) in
+    (subst (λ n. IsCheapest (map route_of narrowed) n trucks 0 (limit + 1) found chosen) all cheapest) (omega (arith, within)) in
     record {
       pool_of = are.pool_of;
       rising = are.rising;
@@ -53,7 +53,7 @@ canonical_task p limit narrowed ordered chosen unserved trucks found problem are
 -- where no choice of the narrowed pool costs less than a bound of at most one more than the limit, no feasible plan does
 pub narrowed_bound : (p : Problem) (limit : ℕ) (narrowed : List ListedRoute) (unserved trucks bound : ℕ)
     → IsProblem p → AreOrdered p limit narrowed → IsFleet p trucks → unserved ≡ set_of (customers p)
-    → NoneBelow (map route_of narrowed) unserved trucks bound → bound ≤ limit + 1 → NoneCheaper p bound
+    → NoneBelow (map route_of narrowed) unserved trucks 0 bound → bound ≤ limit + 1 → NoneCheaper p bound
 narrowed_bound p limit narrowed unserved trucks bound problem are_narrowed fleet all below within =
     bounded p limit (map stops_of narrowed) (map route_of narrowed) unserved trucks bound problem are_narrowed.pool_of fleet all below within
 

@@ -4,6 +4,7 @@ pub mod CanonicalPlans
 pub mod ChosenWords
 pub mod Counted
 pub mod KnownChoices
+pub mod LeafBounds
 pub mod Marked
 pub mod Narrowing
 pub mod NextRoutes

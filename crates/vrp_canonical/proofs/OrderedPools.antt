@@ -21,13 +21,13 @@ use Rattle.vrp_customers.specs.CustomerSet.{set_of}
 use Rattle.vrp_routes.specs.Pool.{IsListed, IsPool, RouteOf}
 use Rattle.vrp_routes.specs.Useful.{IsUseful}
 
-listed_route : (p : Problem) (route : RouteOf) → IsListed p route → IsRoute p (stops_in route)
+pub listed_route : (p : Problem) (route : RouteOf) → IsListed p route → IsRoute p (stops_in route)
 listed_route p route listed = record { begins = listed.begins; some = listed.some }
 
 listed_seen : (p : Problem) (route : RouteOf) → IsListed p route → chosen_of route ≡ seen p (stops_in route)
 listed_seen p route listed = let set = listed.set in let cost = listed.cost in λ i. record { set = set i; cost = cost i }
 
-seen_all : (p : Problem) (pool : List RouteOf) → All (IsListed p) pool → map chosen_of pool ≡ map (seen p) (map stops_in pool)
+pub seen_all : (p : Problem) (pool : List RouteOf) → All (IsListed p) pool → map chosen_of pool ≡ map (seen p) (map stops_in pool)
 seen_all p [] listed = refl
 seen_all p (route ∷ pool) listed =
     let here = listed_seen p route (listed 0 route (omega arith)) in
@@ -61,7 +61,7 @@ seen_ordered p limit stops pool (route ∷ ordered) pool_of stand =
 
 -- a route of a canonical plan within the limit is marked, and so it is listed
 marked_useful : (p : Problem) (limit most trucks count : ℕ) (stops : List (List ℕ)) (pool : List Route) (marks : List Bool) (listed : List ListedRoute)
-    → IsPoolOf p limit stops pool → IsFleet p trucks → most ≤ limit → MarksWithin pool (set_of (customers p)) trucks most marks → length stops ≤ count → AreMarked stops pool marks count listed
+    → IsPoolOf p limit stops pool → IsFleet p trucks → most ≤ limit → MarksWithin pool (set_of (customers p)) trucks 0 most marks → length stops ≤ count → AreMarked stops pool marks count listed
     → (xs : List ℕ) → IsUseful p most xs → Contains (map stops_of listed) xs
 marked_useful p limit most trucks count stops pool marks listed pool_of fleet within marked all are xs useful =
     let plan = useful.plan in
@@ -80,14 +80,14 @@ marked_useful p limit most trucks count stops pool marks listed pool_of fleet wi
       | inr unmarked ↦ absurd (omega (
         arith,
         cheap,
-        marked.rest k (record { set = 0; cost = 0 }) inside unmarked (map (seen p) plan.routes) choice
+        marked.rest k (record { set = 0; cost = 0 }) inside unmarked (map (seen p) plan.routes) choice (omega arith)
             (subst (Contains (map (seen p) plan.routes)) (sym as_seen) (mapped_known (seen p) plan.routes xs useful.among)),
       ))
     ]
 
 -- the marked routes of a pool are one within what a choice may cost, in any order
 pub narrowed_pool : (p : Problem) (limit most trucks count : ℕ) (stops : List (List ℕ)) (pool : List Route) (marks : List Bool) (listed ordered : List ListedRoute)
-    → IsPoolOf p limit stops pool → IsFleet p trucks → most ≤ limit → MarksWithin pool (set_of (customers p)) trucks most marks → length stops ≤ count → AreMarked stops pool marks count listed → IsPermutation listed ordered
+    → IsPoolOf p limit stops pool → IsFleet p trucks → most ≤ limit → MarksWithin pool (set_of (customers p)) trucks 0 most marks → length stops ≤ count → AreMarked stops pool marks count listed → IsPermutation listed ordered
     → IsPoolOf p most (map stops_of ordered) (map route_of ordered)
 narrowed_pool p limit most trucks count stops pool marks listed ordered pool_of fleet within marked all are moved =
     let stand : All (StandsIn stops pool) ordered = All-permutation (StandsIn stops pool) listed ordered moved are.among in

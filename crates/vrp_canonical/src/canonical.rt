@@ -148,7 +148,7 @@ fn choice_among<R: Threads + Sync, P: Guide + Send, W: Watch>(
     ordered: &[ListedRoute],
     budget: &mut u64,
 ) -> Result<Option<Found>, NoMemory>
-    ensures found { IfOk result (λ answer. IfSome answer (IsFound (map route_of ordered.now) search.now.whole.unserved search.now.whole.trucks
+    ensures found { IfOk result (λ answer. IfSome answer (IsFound (map route_of ordered.now) search.now.whole.unserved search.now.whole.trucks 0
         (search.now.whole.most + 1))) }
     ensures budget { budget.new ≤ budget.old }
 {
@@ -201,7 +201,7 @@ fn plan_of_choice<R: Threads + Sync, P: Guide + Send, W: Watch + Sync>(
 ) -> Result<RoutesOutcome, NoMemory>
     requires whole { IsWhole search.now.instance.now search.now.pool.now search.now.routes.now search.now.whole }
     requires ordered { AreOrdered search.now.instance.now search.now.whole.most ordered.items }
-    requires cheapest { IsCheapest (map route_of ordered.items) search.now.whole.unserved search.now.whole.trucks (search.now.whole.most + 1)
+    requires cheapest { IsCheapest (map route_of ordered.items) search.now.whole.unserved search.now.whole.trucks 0 (search.now.whole.most + 1)
         chosen.cost chosen.routes.items }
     requires within { chosen.cost ≤ search.now.whole.most }
     ensures canonical { IfOk result (IfCanonical (IsCanonical search.now.instance.now)) }

@@ -63,7 +63,7 @@ pub fn least_is_canonical()
 pub fn cheapest_is_canonical()
     ensures { (p : Problem) (limit : ℕ) (stops : List (List ℕ)) (pool routes : List Route) (trucks incumbent found : ℕ)
         → IsProblem p → IsPoolOf p limit stops pool → IsFleet p trucks → found ≤ limit
-        → IsCheapest pool (set_of (customers p)) trucks incumbent found routes → found < incumbent
+        → IsCheapest pool (set_of (customers p)) trucks 0 incumbent found routes → found < incumbent
         → (plan : PricedPlan) × IsCanonical p plan × (plan.cost ≡ found) }
 {}
 
@@ -72,16 +72,16 @@ pub fn none_is_cheap()
     ensures { (p : Problem) (limit : ℕ) (stops : List (List ℕ)) (pool routes : List Route)
         (trucks incumbent : ℕ) (others : List (List ℕ))
         → IsProblem p → IsPoolOf p limit stops pool → IsFleet p trucks
-        → IsCheapest pool (set_of (customers p)) trucks incumbent incumbent routes
+        → IsCheapest pool (set_of (customers p)) trucks 0 incumbent incumbent routes
         → IsLawful p others → plan_cost p others ≤ limit → incumbent ≤ plan_cost p others }
 {}
 
 /// The cheapest choice below an incumbent answers what is asked of a pool.
 pub fn cheapest_answers()
     ensures yes { (pool routes : List Route) (unserved trucks incumbent found most : ℕ)
-        → IsCheapest pool unserved trucks incumbent found routes → incumbent ≤ most + 1 → found < incumbent
+        → IsCheapest pool unserved trucks 0 incumbent found routes → incumbent ≤ most + 1 → found < incumbent
         → Reaches pool unserved trucks most }
     ensures no { (pool routes : List Route) (unserved trucks incumbent found most : ℕ)
-        → IsCheapest pool unserved trucks incumbent found routes → most + 1 ≤ incumbent → incumbent ≤ found
+        → IsCheapest pool unserved trucks 0 incumbent found routes → most + 1 ≤ incumbent → incumbent ≤ found
         → Reaches pool unserved trucks most → ⊥ }
 {}

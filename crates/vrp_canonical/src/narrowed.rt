@@ -8,7 +8,7 @@ ghost use Rattle.vrp_partition.specs.Pricing.{MarksWithin};
 ghost use Rattle.vrp_routes.specs.Pool.{IsPool};
 
 use crate::ordered::{ListedRoute, in_order, kept_routes, marked_routes, routes_of};
-use crate::residual::Residual;
+use crate::residual::{Residual, Sought};
 use std::alloc::Global;
 use vrp_customers::{Fleet, FleetView};
 use vrp_model::{NoMemory, Watch};
@@ -87,9 +87,30 @@ impl<W: Watch> Narrowing<'_, W> {
         budget: &mut u64,
     ) -> Result<Option<Vec<bool>>, NoMemory>
         ensures marks { IfOk result (λ found. IfSome found (λ marks.
-            MarksWithin routes.now whole.now.unserved whole.now.trucks whole.now.most marks.items)) }
+            MarksWithin routes.now whole.now.unserved whole.now.trucks 0 whole.now.most marks.items)) }
         ensures budget { budget.new ≤ budget.old }
     {
+        let sought = Sought {
+            rest: *whole,
+            least_routes: 0,
+        };
+        self.marks_for(guide, routes, &sought, budget)
+    }
+
+    /// Marks the routes that may be in a choice which is sought within the cost limit. `None` if an amount doesn't fit 32 bits. The
+    /// contract leaves open how much of the budget is spent.
+    pub fn marks_for<P: Guide>(
+        &self,
+        guide: &mut P,
+        routes: &[Route],
+        sought: &Sought,
+        budget: &mut u64,
+    ) -> Result<Option<Vec<bool>>, NoMemory>
+        ensures marks { IfOk result (λ found. IfSome found (λ marks. MarksWithin routes.now sought.now.rest.unserved sought.now.rest.trucks
+            sought.now.least_routes sought.now.rest.most marks.items)) }
+        ensures budget { budget.new ≤ budget.old }
+    {
+        let whole = &sought.rest;
         let fleet = FleetView {
             trucks: whole.trucks,
             ..self.fleet.lent()
@@ -103,6 +124,7 @@ impl<W: Watch> Narrowing<'_, W> {
         let query = Query {
             fleet,
             customers: whole.unserved,
+            least_routes: sought.least_routes,
             limit,
         };
         let marks = routes_within(self.alloc, guide, self.watch, &query, routes, budget)?;

@@ -13,6 +13,13 @@ pub struct Residual {
     pub most: u64,
 }
 
+/// A residual problem, and the least number of routes of the choices that are sought for it.
+#[derive(Clone, Copy, Debug)]
+pub struct Sought {
+    pub rest: Residual,
+    pub least_routes: u16,
+}
+
 impl Residual {
     /// The residual problem after a route. `None` if the route serves a customer who is not unserved, has no truck, or costs too much.
     pub fn without(&self, route: &Route) -> Option<Residual>

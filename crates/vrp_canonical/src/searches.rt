@@ -6,7 +6,7 @@ ghost use Rattle.vrp_partition.specs.Branching.{IsFound};
 ghost use Rattle.vrp_partition.specs.Prices.{AllFit};
 
 use crate::known::{is_choice, routes_inside};
-use crate::residual::Residual;
+use crate::residual::{Residual, Sought};
 use std::alloc::{AllocError, Global};
 use std::thread::Threads;
 use vrp_customers::{Fleet, FleetView};
@@ -102,11 +102,34 @@ pub fn search_within<R: Threads + Sync, P: Guide + Send, W: Watch>(
     rest: &Residual,
     budget: &mut u64,
 ) -> Result<Option<Found>, AllocError>
-    ensures found { IfOk result (λ answer. IfSome answer (IsFound routes.now rest.now.unserved rest.now.trucks (rest.now.most + 1))) }
+    ensures found { IfOk result (λ answer. IfSome answer (IsFound routes.now rest.now.unserved rest.now.trucks 0 (rest.now.most + 1))) }
     ensures none { IfOk result (λ answer. IfNone answer (rest.now.most < 2 ^ 32
         → AllFit fleet.now.demands.items fleet.now.capacity routes.now → ⊥)) }
     ensures budget { budget.new ≤ budget.old }
 {
+    let sought = Sought {
+        rest: *rest,
+        least_routes: 0,
+    };
+    search_for(crew, guide, fleet, routes, &sought, budget)
+}
+
+/// The same where a choice with fewer routes than are sought need not be considered.
+pub fn search_for<R: Threads + Sync, P: Guide + Send, W: Watch>(
+    crew: &Crew<'_, R, W>,
+    guide: &P,
+    fleet: &Fleet,
+    routes: &[Route],
+    sought: &Sought,
+    budget: &mut u64,
+) -> Result<Option<Found>, AllocError>
+    ensures found { IfOk result (λ answer. IfSome answer (IsFound routes.now sought.now.rest.unserved sought.now.rest.trucks
+        sought.now.least_routes (sought.now.rest.most + 1))) }
+    ensures none { IfOk result (λ answer. IfNone answer (sought.now.rest.most < 2 ^ 32
+        → AllFit fleet.now.demands.items fleet.now.capacity routes.now → ⊥)) }
+    ensures budget { budget.new ≤ budget.old }
+{
+    let rest = &sought.rest;
     let fleet = FleetView {
         trucks: rest.trucks,
         ..fleet.lent()
@@ -119,6 +142,7 @@ pub fn search_within<R: Threads + Sync, P: Guide + Send, W: Watch>(
     let task = Task {
         fleet,
         customers: rest.unserved,
+        least_routes: sought.least_routes,
         incumbent: rest.most + 1,
     };
     let found = cheapest_choice(crew, fork, &task, pool, budget)?;

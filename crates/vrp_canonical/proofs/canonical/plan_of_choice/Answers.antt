@@ -27,5 +27,5 @@ returns-in-None-plan-clause-bound g c =
     let narrowed = c.args.ordered.items in
     bound_follows c.best_so_far.result (λ (bound : ℕ). bound ≡ min c.args.chosen.cost whole.most) (NoneCheaper p)
     (λ bound is. narrowed_bound p whole.most narrowed whole.unserved whole.trucks bound c.requires.whole.problem c.requires.ordered c.requires.whole.fleet c.requires.whole.customers
-    (λ rs choice. omega (arith, c.requires.cheapest.least rs choice, is)) (omega (arith, is)))
+    (λ rs choice many. omega (arith, c.requires.cheapest.least rs choice many, is)) (omega (arith, is)))
     c.best_so_far.ensures.bound

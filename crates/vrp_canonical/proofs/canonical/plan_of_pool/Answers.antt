@@ -26,7 +26,7 @@ ordered_within p pool routes whole narrowed ordered is_whole is are =
 
 -- where no choice of these routes costs less than a bound of at most one more than the limit, no feasible plan does
 bound_within : (p : Problem) (pool : List RouteOf) (routes : List Route) (whole : Residual) (ordered : List ListedRoute) (bound : ℕ)
-    → IsWhole p pool routes whole → AreOrdered p whole.most ordered → NoneBelow (map route_of ordered) whole.unserved whole.trucks bound
+    → IsWhole p pool routes whole → AreOrdered p whole.most ordered → NoneBelow (map route_of ordered) whole.unserved whole.trucks 0 bound
     → bound ≤ whole.most + 1 → NoneCheaper p bound
 bound_within p pool routes whole ordered bound is_whole are below within =
     narrowed_bound p whole.most ordered whole.unserved whole.trucks bound is_whole.problem are is_whole.fleet is_whole.customers below within
@@ -44,12 +44,12 @@ returns-in-Some-Cheapest-2-clause-bound g c =
     let ordered = c.in-Some.ordered in
     let chosen = c.in-Some-Cheapest.chosen in
     let are : AreOrdered p whole.most ordered.items = ordered_within p search.pool.now search.routes.now whole c.in_ok-narrowed.narrowed ordered c.requires.whole c.in-Some.is c.in_ok-narrowed.ensures.ordered in
-    let found : IsCheapest (map route_of c.as_slice.result.now) whole.unserved whole.trucks (whole.most + 1) chosen.cost chosen.routes.items =
-    told c.in_ok-chosen.field-0 (Cheapest chosen) (IsFound (map route_of c.as_slice.result.now) whole.unserved whole.trucks (whole.most + 1)) (c.in-Some-Cheapest.is ∙ ap Some c.in-Some-Cheapest.field-0-is) c.in_ok-chosen.ensures.found in
-    let below : NoneBelow (map route_of ordered.items) whole.unserved whole.trucks chosen.cost = subst (λ (rs : List ListedRoute). NoneBelow (map route_of rs) whole.unserved whole.trucks chosen.cost) c.as_slice.ensures.value found.least in
+    let found : IsCheapest (map route_of c.as_slice.result.now) whole.unserved whole.trucks 0 (whole.most + 1) chosen.cost chosen.routes.items =
+    told c.in_ok-chosen.field-0 (Cheapest chosen) (IsFound (map route_of c.as_slice.result.now) whole.unserved whole.trucks 0 (whole.most + 1)) (c.in-Some-Cheapest.is ∙ ap Some c.in-Some-Cheapest.field-0-is) c.in_ok-chosen.ensures.found in
+    let below : NoneBelow (map route_of ordered.items) whole.unserved whole.trucks 0 chosen.cost = subst (λ (rs : List ListedRoute). NoneBelow (map route_of rs) whole.unserved whole.trucks 0 chosen.cost) c.as_slice.ensures.value found.least in
     bound_follows c.none_within.result (λ (bound : ℕ). bound ≡ whole.most + 1) (NoneCheaper p)
     (λ bound is. bound_within p search.pool.now search.routes.now whole ordered.items bound c.requires.whole are
-    (λ rs choice. omega (arith, below rs choice, c.if-branch-most.false, is)) (omega (arith, is)))
+    (λ rs choice many. omega (arith, below rs choice many, c.if-branch-most.false, is)) (omega (arith, is)))
     c.none_within.ensures.bound
 
 pub returns-in-Some-Unfinished-clause-bound : goal.returns-in-Some-Unfinished-clause-bound
@@ -61,10 +61,10 @@ returns-in-Some-Unfinished-clause-bound g c =
     let best = c.in-Some-Unfinished.best in
     let lower = c.in-Some-Unfinished.lower_bound in
     let are : AreOrdered p whole.most ordered.items = ordered_within p search.pool.now search.routes.now whole c.in_ok-narrowed.narrowed ordered c.requires.whole c.in-Some.is c.in_ok-narrowed.ensures.ordered in
-    let found : IsBestSoFar (map route_of c.as_slice.result.now) whole.unserved whole.trucks (whole.most + 1) best lower =
-    told c.in_ok-chosen.field-0 (Unfinished best lower) (IsFound (map route_of c.as_slice.result.now) whole.unserved whole.trucks (whole.most + 1)) (c.in-Some-Unfinished.is ∙ ap Some c.in-Some-Unfinished.field-0-is) c.in_ok-chosen.ensures.found in
-    let below : NoneBelow (map route_of ordered.items) whole.unserved whole.trucks lower = subst (λ (rs : List ListedRoute). NoneBelow (map route_of rs) whole.unserved whole.trucks lower) c.as_slice.ensures.value found.bound in
+    let found : IsBestSoFar (map route_of c.as_slice.result.now) whole.unserved whole.trucks 0 (whole.most + 1) best lower =
+    told c.in_ok-chosen.field-0 (Unfinished best lower) (IsFound (map route_of c.as_slice.result.now) whole.unserved whole.trucks 0 (whole.most + 1)) (c.in-Some-Unfinished.is ∙ ap Some c.in-Some-Unfinished.field-0-is) c.in_ok-chosen.ensures.found in
+    let below : NoneBelow (map route_of ordered.items) whole.unserved whole.trucks 0 lower = subst (λ (rs : List ListedRoute). NoneBelow (map route_of rs) whole.unserved whole.trucks 0 lower) c.as_slice.ensures.value found.bound in
     bound_follows c.best_so_far.result (λ (bound : ℕ). bound ≡ min lower whole.most) (NoneCheaper p)
     (λ bound is. bound_within p search.pool.now search.routes.now whole ordered.items bound c.requires.whole are
-    (λ rs choice. omega (arith, below rs choice, is)) (omega (arith, is)))
+    (λ rs choice many. omega (arith, below rs choice many, is)) (omega (arith, is)))
     c.best_so_far.ensures.bound

@@ -32,15 +32,15 @@ returns-clause-ordered g c =
     subst (λ (ms : List Bool). AreMarked stops routes ms (length ordered) kept.items) c.as_slice-3.ensures.value
     (subst (λ (xs : List ListedRoute). AreMarked (map stops_of xs) (map route_of xs) c.as_slice-3.result.now (length xs) kept.items) c.as_slice-2.ensures.value c.in_ok-kept.ensures) in
     let same : c.as_slice-routes.result.now ≡ routes = c.as_slice-routes.ensures.value ∙ c.in_ok-routes.ensures ∙ ap (map route_of) c.as_slice.ensures.value in
-    let marked : MarksWithin routes whole.unserved whole.trucks whole.most marks.items =
-    subst (λ (rs : List Route). MarksWithin rs whole.unserved whole.trucks whole.most marks.items) same
-    (told c.in_ok-marks.field-0 marks (λ (ms : Vec Bool Global). MarksWithin c.as_slice-routes.result.now whole.unserved whole.trucks whole.most ms.items) c.in-Some.is c.in_ok-marks.ensures.marks) in
+    let marked : MarksWithin routes whole.unserved whole.trucks 0 whole.most marks.items =
+    subst (λ (rs : List Route). MarksWithin rs whole.unserved whole.trucks 0 whole.most marks.items) same
+    (told c.in_ok-marks.field-0 marks (λ (ms : Vec Bool Global). MarksWithin c.as_slice-routes.result.now whole.unserved whole.trucks 0 whole.most ms.items) c.in-Some.is c.in_ok-marks.ensures.marks) in
     both_told c.in_ok-left.left (λ (o : Vec ListedRoute Global). IsPermutation kept.items o.items) (λ (o : Vec ListedRoute Global). AllPairs IsEarlier (map stops_of o.items))
     (λ (o : Vec ListedRoute Global). (p : Problem) → AreOrdered p before.most ordered → IsFleet p whole.trucks → whole.unserved ≡ set_of (customers p) → whole.most ≤ before.most → AreOrdered p whole.most o.items)
     (λ o moved rising. λ p ordered_are fleet unserved within. record {
       pool_of = narrowed_pool p before.most whole.most whole.trucks (length ordered) stops routes marks.items kept.items o.items
           ordered_are.pool_of fleet within
-          (subst (λ n. MarksWithin routes n whole.trucks whole.most marks.items) unserved marked) (omega (arith, length-map ordered stops_of)) are moved;
+          (subst (λ n. MarksWithin routes n whole.trucks 0 whole.most marks.items) unserved marked) (omega (arith, length-map ordered stops_of)) are moved;
       rising = rising;
     })
     c.in_ok-left.ensures.moved c.in_ok-left.ensures.rising

@@ -24,14 +24,14 @@ returns-clause-ordered g c =
     let listed = c.in_ok-listed.listed in
     let are : AreMarked (map stops_in pool) routes marks.items (length pool) listed.items =
     subst (λ (ms : List Bool). AreMarked (map stops_in pool) routes ms (length pool) listed.items) c.as_slice.ensures.value c.in_ok-listed.ensures in
-    let marked : MarksWithin routes whole.unserved whole.trucks whole.most marks.items =
-    told c.in_ok-marks.field-0 marks (λ (ms : Vec Bool Global). MarksWithin routes whole.unserved whole.trucks whole.most ms.items) c.in-Some.is c.in_ok-marks.ensures.marks in
+    let marked : MarksWithin routes whole.unserved whole.trucks 0 whole.most marks.items =
+    told c.in_ok-marks.field-0 marks (λ (ms : Vec Bool Global). MarksWithin routes whole.unserved whole.trucks 0 whole.most ms.items) c.in-Some.is c.in_ok-marks.ensures.marks in
     both_told c.in_ok-ordered.ordered (λ (o : Vec ListedRoute Global). IsPermutation listed.items o.items) (λ (o : Vec ListedRoute Global). AllPairs IsEarlier (map stops_of o.items))
     (λ (o : Vec ListedRoute Global). (p : Problem) (limit : ℕ) → IsPool p limit pool → IsFleet p whole.trucks → whole.unserved ≡ set_of (customers p) → whole.most ≤ limit → AreOrdered p whole.most o.items)
     (λ o moved rising. λ p limit is_pool fleet unserved within. record {
       pool_of = narrowed_pool p limit whole.most whole.trucks (length pool) (map stops_in pool) routes marks.items listed.items o.items
           (subst (IsPoolOf p limit (map stops_in pool)) (sym c.requires) (whole_pool p limit pool is_pool)) fleet within
-          (subst (λ n. MarksWithin routes n whole.trucks whole.most marks.items) unserved marked) (omega (arith, length-map pool stops_in)) are moved;
+          (subst (λ n. MarksWithin routes n whole.trucks 0 whole.most marks.items) unserved marked) (omega (arith, length-map pool stops_in)) are moved;
       rising = rising;
     })
     c.in_ok-ordered.ensures.moved c.in_ok-ordered.ensures.rising
