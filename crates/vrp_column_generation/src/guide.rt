@@ -28,7 +28,7 @@ pub struct Settings {
     pub most_listed: u32,
     /// The most labels of a list for the limit that prices are found for.
     pub enough_listed: u32,
-    /// The most subset rows of the program.
+    /// The most subset rows with a price. The program may have others too.
     pub most_rows: usize,
     /// Where the number of routes in a solution isn't whole, two leaves are worth it if the gap is so many thousandths of the limit.
     pub worth_leaves: u16,
@@ -403,7 +403,8 @@ impl Guide {
     pub(crate) fn add_subset_rows(&mut self) -> Result<usize, NoMemory> {
         let used = self.master.used()?;
         let known = self.master.subset_rows()?;
-        let room = self.settings.most_rows.saturating_sub(known.len());
+        let priced = self.master.priced_subset_rows();
+        let room = self.settings.most_rows.saturating_sub(priced);
         let search = RowSearch {
             most: ROWS_AT_ONCE.min(room),
             most_each: ROWS_WITH_A_CUSTOMER,

@@ -8,7 +8,7 @@ use crate::columns::Columns;
 use crate::program_rows::ProgramRow;
 use std::alloc::Global;
 use vrp_customers::{CustomerSet, PLACES};
-use vrp_duals::{Duals, EntryRow, SubsetRow};
+use vrp_duals::{Duals, EntryRow, MAX_SUBSET_ROWS, SubsetRow};
 use vrp_linear_program::{LinearProgram, Settings};
 use vrp_model::{Instance, NoMemory};
 use vrp_separation::UsedRoute;
@@ -291,10 +291,12 @@ impl Master {
                 entries.push(EntryRow { price, ..row })?
             }
             ProgramRow::AtMost(row) if price < 0 => entries.push(EntryRow { price, ..row })?,
-            ProgramRow::Subset(row) if price < 0 => rows.push(SubsetRow {
-                price: price.unsigned_abs(),
-                ..row
-            })?,
+            ProgramRow::Subset(row) if price < 0 && rows.len() < MAX_SUBSET_ROWS => rows.push(
+                SubsetRow {
+                    price: price.unsigned_abs(),
+                    ..row
+                },
+            )?,
             _ => {}
         }
         Ok(())
@@ -309,6 +311,19 @@ impl Master {
             }
         }
         Ok(sets)
+    }
+
+    /// How many subset rows have a price.
+    pub(crate) fn priced_subset_rows(&self) -> usize {
+        let mut count: usize = 0;
+        let mut number = usize::from(self.customers);
+        for row in &self.rows {
+            if matches!(row, ProgramRow::Subset(_)) && self.price(number) < 0 {
+                count = count.saturating_add(1);
+            }
+            number = number.saturating_add(1);
+        }
+        count
     }
 
     /// The subset rows.

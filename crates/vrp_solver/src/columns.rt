@@ -87,7 +87,7 @@ fn plan_from<R: Threads + Sync, G: Gate + Sync>(
     // A plan costs less than none.
     plans_cost_less();
     let _customers = shared.instance.customers();
-    let Generated { made, word } = generated(shared, routes, workers, known)?;
+    let GeneratedRoutes { made, word } = generated(shared, routes, workers, known)?;
     let best = cheaper_plan(
         shared.alloc,
         shared.instance,
@@ -194,7 +194,7 @@ fn with_bound(outcome: RoutesOutcome, bound: u64) -> RoutesOutcome
 
 // What column generation leaves, and the word of the cheapest plan that was found meanwhile.
 #[derive(Drop)]
-struct Generated<'a> {
+struct GeneratedRoutes<'a> {
     made: Generation<'a>,
     word: Vec<u16>,
 }
@@ -205,7 +205,7 @@ fn generated<'a, R: Threads + Sync, G: Gate + Sync>(
     routes: &[Vec<u16>],
     workers: u32,
     known: &Plan,
-) -> Result<Generated<'a>, NoMemory>
+) -> Result<GeneratedRoutes<'a>, NoMemory>
     requires few { place_count shared.now.problem ≤ PLACES }
     requires limit { known.now.cost ≤ NO_COST }
     requires some_worker { 1 ≤ workers }
@@ -231,7 +231,7 @@ fn generated<'a, R: Threads + Sync, G: Gate + Sync>(
     );
     drop(first);
     let word = finder.into_word();
-    Ok(Generated { made: made?, word })
+    Ok(GeneratedRoutes { made: made?, word })
 }
 
 /// What column generation may use, and what is enough for it.
@@ -263,8 +263,8 @@ fn first_routes(
     Ok(routes)
 }
 
-/// No plan was found, and nothing is known.
-pub(crate) fn nothing() -> RoutesOutcome
+// No plan was found, and nothing is known.
+fn nothing() -> RoutesOutcome
     ensures canonical { IfCanonical (λ _. ⊥) result }
     ensures better { IfBetter (λ _. ⊥) result }
     ensures bound { IfBound (λ bound. bound ≡ 0) result }

@@ -11,7 +11,7 @@ ghost use Rattle.vrp_model.specs.Route.{IsPlanOf};
 ghost use Rattle.vrp_column_generation.specs.Pools.{ArePools};
 
 use crate::choice::chosen_plan;
-use crate::columns::{nothing, settings_of};
+use crate::columns::settings_of;
 use crate::stage_watch::{StageWatch, crew_of};
 use std::thread::Threads;
 use vrp_answer::{Event, Gate, Shared, Stage};
@@ -19,6 +19,9 @@ use vrp_bound::LowerBound;
 use vrp_canonical::RoutesOutcome;
 use vrp_column_generation::{LastPrices, Pools};
 use vrp_model::{NoMemory, Plan};
+
+// The most guesses.
+const MOST_GUESSES: u32 = 16;
 
 // The limits of the guesses, in percent of the gap. With the best plan known, guesses take a little longer than none; with another one
 // they save most of the list and of the choice.
@@ -30,8 +33,9 @@ const WIDE_GAP: u64 = 6;
 const PERCENT_OF_WIDE_GAP: &[u64] = &[20, 35, 50, 65, 80, 100];
 
 /// The canonical plan, among the routes that the last prices of column generation list for one limit after another, up to `most`, the
-/// limit of these prices. It isn't found if a limit on labels is met, the budget is spent, or the gate stops the search. No plan costs less than
-/// `bound`; a guess without a plan raises it, and the gate hears of that. There are 1 to 64 workers. The only error is lack of memory.
+/// limit of these prices. Where a list is too long, the next limit is half as far above the bound. It isn't found if a limit on labels is met,
+/// the budget is spent, or the gate stops the search. No plan costs less than `bound`; a guess without a plan raises it, and the gate hears
+/// of that. There are 1 to 64 workers. The only error is lack of memory.
 pub(crate) fn plan_by_guesses<R: Threads + Sync, G: Gate + Sync>(
     shared: &Shared<'_, R, G>,
     workers: u32,
@@ -51,13 +55,21 @@ pub(crate) fn plan_by_guesses<R: Threads + Sync, G: Gate + Sync>(
 {
     let first = bound;
     let mut bound = bound;
-    for &percent in percents(first, most) {
-        let limit = guess(first, most, percent);
-        // No plan costs as little, as an earlier guess has shown.
+    // A list for a limit above this is too long.
+    let mut reach = most;
+    for _ in 0..MOST_GUESSES {
+        let limit = next_guess(first, most, bound).min(reach);
         if limit < bound {
-            continue;
+            break;
         }
-        match plan_within(shared, workers, known, prices, limit)? {
+        let Some(pools) = pools_within(shared, workers, prices, limit)? else {
+            if limit == bound {
+                break;
+            }
+            reach = bound + (limit - bound) / 2;
+            continue;
+        };
+        match chosen_plan(shared, pools, limit, known, workers)? {
             RoutesOutcome::Canonical(plan) => return Ok(RoutesOutcome::Canonical(plan)),
             RoutesOutcome::Unfinished {
                 better,
@@ -82,6 +94,20 @@ pub(crate) fn plan_by_guesses<R: Threads + Sync, G: Gate + Sync>(
     })
 }
 
+// The lowest limit that is guessed, between the first lower bound and the greatest limit, and not below a bound; the greatest limit if
+// there is none.
+fn next_guess(first: u64, most: u64, bound: u64) -> u64
+    ensures { result ≤ most }
+{
+    for &percent in percents(first, most) {
+        let limit = guess(first, most, percent);
+        if limit >= bound {
+            return limit;
+        }
+    }
+    most
+}
+
 // The percents of the gap that are guessed.
 fn percents(bound: u64, most: u64) -> &'static [u64] {
     if most.saturating_sub(bound) < most / 1_000 * WIDE_GAP {
@@ -98,29 +124,6 @@ fn guess(bound: u64, most: u64, percent: u64) -> u64
     let gap = most.saturating_sub(bound);
     let part = gap.saturating_mul(percent) / 100;
     bound.saturating_add(part).min(most)
-}
-
-// The canonical plan, if it costs no more than a limit.
-fn plan_within<R: Threads + Sync, G: Gate + Sync>(
-    shared: &Shared<'_, R, G>,
-    workers: u32,
-    known: &Plan,
-    prices: &LastPrices<'_>,
-    limit: u64,
-) -> Result<RoutesOutcome, NoMemory>
-    requires few { place_count shared.now.problem ≤ PLACES }
-    requires some_worker { 1 ≤ workers }
-    requires few_workers { workers ≤ 64 }
-    requires problem { prices.now.problem ≡ shared.now.problem }
-    requires limit { limit ≤ prices.now.limit }
-    ensures canonical { IfOk result (IfCanonical (IsCanonical shared.now.problem)) }
-    ensures better { IfOk result (IfBetter (IsPlanOf shared.now.problem)) }
-    ensures bound { IfOk result (IfBound (NoneCheaper shared.now.problem)) }
-{
-    match pools_within(shared, workers, prices, limit)? {
-        Some(pools) => chosen_plan(shared, pools, limit, known, workers),
-        None => Ok(nothing()),
-    }
 }
 
 // The routes that may be in the canonical plan, if it costs no more than a limit.

@@ -4,21 +4,18 @@ use Rattle.vrp_model.specs.Cheapest.{NoneCheaper}
 use Rattle.vrp_solver.proofs.Solvings.{higher_bound}
 use Rattle.vrp_solver.proofs.guesses.plan_by_guesses.Goals as goal
 
-pub loop-percent-init : goal.loop-percent-init
-loop-percent-init g c = c.requires.bound
-
-pub loop-percent-preserved-then-limit-bound : goal.loop-percent-preserved-then-limit-bound
-loop-percent-preserved-then-limit-bound g c = c.loop-percent.invariant
+pub loop-init : goal.loop-init
+loop-init g c = c.requires.bound
 
 pub returns-then-lower_bound-limit-clause-bound : goal.returns-then-lower_bound-limit-clause-bound
 returns-then-lower_bound-limit-clause-bound g c =
     let p = c.args.shared.now.problem in
-    higher_bound p c.loop-percent.bound c.in-Unfinished.lower_bound c.max-bound.result c.loop-percent.invariant (subst (IfBound (NoneCheaper p)) c.in-Unfinished.is c.in_ok-plan.ensures.bound) c.max-bound.ensures
+    higher_bound p c.loop.bound c.in-Unfinished.lower_bound c.max-bound.result c.loop.invariant (subst (IfBound (NoneCheaper p)) c.in-Unfinished.is c.in_ok-chosen_plan.ensures.bound) c.max-bound.ensures
 
-pub loop-percent-preserved : goal.loop-percent-preserved
-loop-percent-preserved g c =
+pub loop-preserved : goal.loop-preserved
+loop-preserved g c =
     let p = c.args.shared.now.problem in
-    higher_bound p c.loop-percent.bound c.in-Unfinished.lower_bound c.max-bound.result c.loop-percent.invariant (subst (IfBound (NoneCheaper p)) c.in-Unfinished.is c.in_ok-plan.ensures.bound) c.max-bound.ensures
+    higher_bound p c.loop.bound c.in-Unfinished.lower_bound c.max-bound.result c.loop.invariant (subst (IfBound (NoneCheaper p)) c.in-Unfinished.is c.in_ok-chosen_plan.ensures.bound) c.max-bound.ensures
 
 pub returns-clause-bound : goal.returns-clause-bound
-returns-clause-bound g c = c.loop-percent.invariant
+returns-clause-bound g c = c.loop.invariant
