@@ -113,6 +113,7 @@ fn search<R: Threads + Sync>(
     let task = Task {
         fleet,
         customers,
+        least_routes: 0,
         incumbent: known_cost,
     };
     let mut budget = budget;

@@ -124,6 +124,7 @@ fn chosen_routes<R: Threads + Sync, W: Watch + Sync>(
     let task = Task {
         fleet: fleet.lent(),
         customers: all_customers(instance),
+        least_routes: 0,
         incumbent: u64::from(cost),
     };
     let mut budget = BUDGET;

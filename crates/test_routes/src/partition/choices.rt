@@ -177,6 +177,7 @@ fn searched_by<R: Abort + Threads + Sync>(
     let task = Task {
         fleet,
         customers: set_of(asked.customers),
+        least_routes: 0,
         incumbent: asked.incumbent,
     };
     let routes = Vec::from_slice(alloc, pool).expect(rt, "memory");
@@ -428,6 +429,7 @@ fn marks(
     let query = Query {
         fleet,
         customers: set_of(CUSTOMERS),
+        least_routes: 0,
         limit: within.limit,
     };
     let marks = routes_within(alloc, &mut guide, &watch, &query, pool, budget);

@@ -73,7 +73,7 @@ fn reduced_costs_by_hand(rt: HostRuntime) {
     let duals = [0, 5 * UNIT, 7 * UNIT, 8 * UNIT];
     let mut offer = offer(rt, alloc, &duals, &[cut_of(TRIPLE)], &[cut_of(TWO_TRUCKS)]);
     offer.truck_price = SCALE;
-    let prices = Prices::admit(offer, &[1u32; PLACES], CAPACITY, set_of(THREE)).expect(
+    let prices = Prices::admit(offer, &[1u32; PLACES], CAPACITY, set_of(THREE), 0).expect(
         rt, "prices",
     );
     assert_same(
@@ -230,7 +230,7 @@ fn prices_that_are_refused(rt: HostRuntime) {
         truck_price: 0,
         work: 0,
     };
-    let prices = Prices::admit(short, &[1u32; PLACES], CAPACITY, set_of(THREE));
+    let prices = Prices::admit(short, &[1u32; PLACES], CAPACITY, set_of(THREE), 0);
     assert_same(rt, prices.is_some(), false, "255 duals");
 }
 
@@ -244,7 +244,7 @@ fn assert_admitted(rt: &impl Abort, alloc: Global, offered: Offered, wanted: boo
         truck_price: offered.truck_price,
         work: 0,
     };
-    let prices = Prices::admit(offer, &[1u32; PLACES], CAPACITY, set_of(THREE));
+    let prices = Prices::admit(offer, &[1u32; PLACES], CAPACITY, set_of(THREE), 0);
     assert_same(rt, prices.is_some(), wanted, offered);
 }
 
@@ -277,7 +277,7 @@ fn prices_at_the_limits(rt: HostRuntime) {
             truck_price: 0,
             work: 0,
         };
-        let prices = Prices::admit(offer, &[u32::MAX; PLACES], 1, every).expect(rt, "prices");
+        let prices = Prices::admit(offer, &[u32::MAX; PLACES], 1, every, 0).expect(rt, "prices");
         assert_same(rt, prices.lower_bound(every, 128), low, dual);
         assert_same(rt, prices.reduced_cost(every, u32::MAX), reduced, dual);
     }

@@ -79,6 +79,7 @@ fn choice<R: Abort + Threads + Sync>(
     let task = Task {
         fleet,
         customers: set_of(asked.customers),
+        least_routes: 0,
         incumbent: asked.incumbent,
     };
     let found = cheapest_choice(&crew, guide, &task, routes, &mut budget);

@@ -99,13 +99,14 @@ fn offered(rt: &impl Abort, alloc: Global, asked: &Asked<'_>, pool: &[Route]) ->
     let task = Task {
         fleet,
         customers,
+        least_routes: 0,
         incumbent: asked.incumbent,
     };
     let offer = guide.offer(pool, &task).expect(rt, "memory");
     let (primal, dual) = guide.steps();
     assert!(rt; primal.saturating_add(dual) > 0, "no step, at {asked:?}");
     let work = offer.work;
-    let prices = Prices::admit(offer, &demands, asked.capacity, customers);
+    let prices = Prices::admit(offer, &demands, asked.capacity, customers, 0);
     let prices = prices.expect(rt, "admissible prices");
     let costs = reduced_costs(alloc, &prices, pool).expect(rt, "memory");
     let least = costs.iter().copied().min().unwrap_or(0).min(0);
