@@ -1,7 +1,7 @@
 //! The plans found are the canonical ones, compared with a slow program.
 
 use crate::assertion::assert_same;
-use crate::canonical::found::{Effort, found_plan};
+use crate::canonical::found::{Effort, UNHURRIED, found_plan};
 use crate::five_places::{DEMANDS, LEVEL, ONE_DIRECTION};
 use crate::guides::{Among, Answering, Habit, Habitual};
 use std::alloc::Global;
@@ -117,14 +117,6 @@ fn guide(alloc: Global, habit: Habit, seed: u64) -> Habitual {
 }
 
 const GUIDES: &[(Habit, u64)] = &[(Habit::Zeros, 1), (Habit::Random, 2), (Habit::Random, 3)];
-
-// More than a search among the routes of these instances needs.
-const UNHURRIED: Effort = Effort {
-    watch: Answering {
-        should_continue: true,
-    },
-    budget: 1_000_000,
-};
 
 fn by_guides<R: Abort + Threads + Sync>(
     rt: &R,

@@ -111,6 +111,7 @@ struct Offered {
     subset_row: ToldCut,
     capacity_cuts: usize,
     capacity_cut: ToldCut,
+    least_routes: u16,
 }
 
 const HIGHEST: u64 = 1 << 50;
@@ -124,6 +125,7 @@ const GOOD: Offered = Offered {
     subset_row: (THREE, 0, HIGHEST),
     capacity_cuts: 512,
     capacity_cut: (THREE, 2, HIGHEST),
+    least_routes: 0,
 };
 
 const ADMITTED: &[(Offered, bool)] = &[
@@ -205,6 +207,16 @@ const CAPACITY_CUTS: &[Admitted] = &[
     (&[], 0, 1, true),
 ];
 
+// A cut, where each choice in question has at least so many routes: the set, the count, that number, and whether the cut is admitted.
+const GRANTED: &[(&[u16], u32, u16, bool)] = &[
+    (THREE, 3, 3, true),
+    (THREE, 3, 9, true),
+    (THREE, 3, 2, false),
+    (THREE, 2, 0, true),
+    (&[1, 2], 2, 9, false),
+    (&[0, 1, 2, 3], 2, 9, false),
+];
+
 #[test]
 fn prices_that_are_refused(rt: HostRuntime) {
     let (rt, alloc) = (&rt, rt.alloc());
@@ -219,6 +231,15 @@ fn prices_that_are_refused(rt: HostRuntime) {
         let capacity_cut = (customers, count, price);
         let offered = Offered {
             capacity_cut,
+            ..GOOD
+        };
+        assert_admitted(rt, alloc, offered, wanted);
+    }
+    for &(customers, count, least_routes, wanted) in GRANTED {
+        let capacity_cut = (customers, count, 1);
+        let offered = Offered {
+            capacity_cut,
+            least_routes,
             ..GOOD
         };
         assert_admitted(rt, alloc, offered, wanted);
@@ -244,7 +265,13 @@ fn assert_admitted(rt: &impl Abort, alloc: Global, offered: Offered, wanted: boo
         truck_price: offered.truck_price,
         work: 0,
     };
-    let prices = Prices::admit(offer, &[1u32; PLACES], CAPACITY, set_of(THREE), 0);
+    let prices = Prices::admit(
+        offer,
+        &[1u32; PLACES],
+        CAPACITY,
+        set_of(THREE),
+        offered.least_routes,
+    );
     assert_same(rt, prices.is_some(), wanted, offered);
 }
 

@@ -1,10 +1,9 @@
-use Rattle.std.proofs.Common.{◌+◌, Bool, List, Vec, Global, sym, subst}
+use Rattle.std.proofs.Common.{◌+◌, Bool, Vec, Global, sym, subst}
 use Rattle.vrp_canonical.specs.Leaves.{KeepsChoices}
 use Rattle.vrp_canonical.proofs.CanonicalPlans.{told}
 use Rattle.vrp_canonical.proofs.LeafBounds.{kept_bound}
 use Rattle.vrp_partition.specs.Branching.{IsFound}
 use Rattle.vrp_partition.specs.Pricing.{MarksWithin}
-use Rattle.vrp_partition.specs.declared.route.Route.{Route}
 use Rattle.vrp_canonical.proofs.leaves.choice_for.Goals as goal
 
 pub returns-in-Some-found-clause-bound : goal.returns-in-Some-found-clause-bound

@@ -1,4 +1,4 @@
-use Rattle.std.proofs.Common.{◌≡◌, ◌∙◌, List, Vec, Global, map}
+use Rattle.std.proofs.Common.{◌≡◌, ◌∙◌, Vec, Global, map}
 use Rattle.vrp_canonical.specs.Ordering.{chosen_of}
 use Rattle.vrp_canonical.specs.declared.leaves.BoundedChoice.{BoundedChoice}
 use Rattle.vrp_canonical.proofs.CanonicalPlans.{told}
