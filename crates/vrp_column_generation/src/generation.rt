@@ -11,11 +11,9 @@ ghost use Rattle.vrp_routes.specs.Range.{plans_within};
 use crate::guide::{Guide, Settings};
 use crate::last_prices::LastPrices;
 use crate::leaves::generate_leaves;
-use crate::plan_finder::PlanFinder;
 use crate::pools::Pools;
 use crate::progress::Progress;
-use crate::root::run_root;
-use crate::rounds::AfterRounds;
+use crate::rounds::{AfterRounds, RoundLimits, run_rounds};
 use std::thread::Threads;
 use vrp_customers::CustomerSet;
 use vrp_duals::MAX_SCALE;
@@ -26,8 +24,6 @@ use vrp_routes::RoutePool;
 /// What column generation leaves.
 #[derive(Drop)]
 pub struct Generation<'a> {
-    /// What a plan costs at most that the rest is about: as much as was given, or as the cheapest plan that was found meanwhile.
-    pub limit: u64,
     /// No feasible plan within the limit costs less.
     pub bound: u64,
     /// The routes that may be in the canonical plan, if that costs no more than the limit: there if their list is short.
@@ -35,6 +31,9 @@ pub struct Generation<'a> {
     /// The last prices, if there are no pools: they list the routes for lower limits. None if no pass was made by final prices: the caller
     /// stopped it, a limit was met, or pricing can't use the instance's demands.
     pub prices: Option<LastPrices<'a>>,
+    /// The stops of the program's routes, from which column generation may begin again. A route may visit a customer twice. No clause pins
+    /// them.
+    pub routes: Vec<Vec<u16>>,
 }
 
 // The number of customers that a label remembers at most.
@@ -52,23 +51,20 @@ fn scale_for(limit: u64) -> u32 {
 /// Finds dual prices of an instance by column generation, makes passes by them, and lists the routes after the last one: those that may be in
 /// the canonical plan, if that costs no more than the limit. Where their list would be long, it leaves the prices. Where the number of routes
 /// in a solution isn't whole, it branches: plans with fewer routes and plans with more get prices of their own. The program begins with
-/// `routes`, those of heuristic plans. The finder looks for cheaper plans over the program's routes, and the limit falls with their cost.
-/// The contract leaves open how far the limit falls, how high the bound is, and whether there are pools or prices. The only error is lack
-/// of memory.
-pub fn generate_routes<'a, R: Threads + Sync, W: Watch + Sync, P: PlanFinder>(
+/// `routes`, those of heuristic plans. The contract leaves open how high the bound is, and whether there are pools or prices. The only error
+/// is lack of memory.
+pub fn generate_routes<'a, R: Threads + Sync, W: Watch + Sync>(
     crew: &Crew<'_, R, W>,
     instance: &'a Instance,
     limit: u64,
     routes: &[Vec<u16>],
-    finder: &mut P,
     settings: Settings,
 ) -> Result<Generation<'a>, NoMemory>
     requires few { place_count instance.now ≤ PLACES }
     requires limit { limit ≤ NO_COST }
-    ensures limit { IfOk result (λ made. made.limit ≤ limit) }
-    ensures bound { IfOk result (λ made. BoundsPlans instance.now made.limit made.bound) }
-    ensures pools { IfOk result (λ made. IfSome made.pools (ArePools instance.now made.limit)) }
-    ensures prices { IfOk result (λ made. IfSome made.prices (λ prices. prices ≡ record { problem = instance.now; limit = made.limit })) }
+    ensures bound { IfOk result (λ made. BoundsPlans instance.now limit made.bound) }
+    ensures pools { IfOk result (λ made. IfSome made.pools (ArePools instance.now limit)) }
+    ensures prices { IfOk result (λ made. IfSome made.prices (λ prices. prices ≡ record { problem = instance.now; limit = limit })) }
 {
     let alloc = crew.alloc;
     let near = nearest_sets(alloc, instance, NEAR)?;
@@ -78,41 +74,40 @@ pub fn generate_routes<'a, R: Threads + Sync, W: Watch + Sync, P: PlanFinder>(
     let Some(mut guide) = guide else {
         drop(arcs);
         return Ok(Generation {
-            limit,
             bound: 0,
             pools: None,
             prices: None,
+            routes: Vec::new(alloc),
         });
     };
     guide.limit_trucks(instance)?;
-    let made = generate(crew, instance, arcs, &mut guide, near, finder);
+    let made = generate(crew, instance, arcs, &mut guide, near);
     drop(guide);
     made
 }
 
 // What column generation by this guide leaves, along these arcs.
-fn generate<'a, R: Threads + Sync, W: Watch + Sync, P: PlanFinder>(
+fn generate<'a, R: Threads + Sync, W: Watch + Sync>(
     crew: &Crew<'_, R, W>,
     instance: &'a Instance,
     arcs: AliveArcs<'a>,
     guide: &mut Guide,
     near: Vec<CustomerSet>,
-    finder: &mut P,
 ) -> Result<Generation<'a>, NoMemory>
     requires few { place_count instance.now ≤ PLACES }
     requires problem { arcs.problem ≡ instance.now }
     requires all { arcs.range ≡ plans_within arcs.range.limit }
-    ensures limit { IfOk result (λ made. made.limit ≤ arcs.entry.range.limit) }
-    ensures bound { IfOk result (λ made. BoundsPlansIn instance.now (plans_within made.limit) made.bound) }
-    ensures pools { IfOk result (λ made. IfSome made.pools (ArePools instance.now made.limit)) }
-    ensures prices { IfOk result (λ made. IfSome made.prices (λ prices. prices ≡ record { problem = instance.now; limit = made.limit })) }
+    ensures bound { IfOk result (λ made. BoundsPlansIn arcs.entry.problem arcs.entry.range made.bound) }
+    ensures pools { IfOk result (λ made. IfSome made.pools (ArePools arcs.entry.problem arcs.entry.range.limit)) }
+    ensures prices { IfOk result (λ made. IfSome made.prices (λ prices.
+        prices ≡ record { problem = arcs.entry.problem; limit = arcs.entry.range.limit })) }
 {
-    let last = run_root(crew, instance, Progress::new(arcs), guide, &near, finder)?;
+    let limits = RoundLimits::of_root(guide.most_rounds());
+    let last = run_rounds(crew, instance, Progress::new(arcs), guide, &near, limits)?;
     let AfterRounds {
         progress,
         pool,
         branch,
-        ..
     } = last;
     match branch {
         Some(fewer) => {
@@ -121,7 +116,8 @@ fn generate<'a, R: Threads + Sync, W: Watch + Sync, P: PlanFinder>(
         }
         None => {
             let guess = guide.guess();
-            Ok(progress.generation(pool, near, guess))
+            let routes = guide.routes()?;
+            Ok(progress.generation(pool, near, guess, routes))
         }
     }
 }
@@ -133,22 +129,21 @@ impl<'a> Progress<'a> {
         pool: Option<RoutePool>,
         near: Vec<CustomerSet>,
         guess: u64,
+        routes: Vec<Vec<u16>>,
     ) -> Generation<'a>
         requires { self.arcs.range ≡ plans_within self.arcs.range.limit }
-        ensures limit { result.limit ≡ self.entry.arcs.range.limit }
         ensures bound { BoundsPlansIn self.entry.arcs.problem self.entry.arcs.range result.bound }
         ensures pools { (p : Problem) → IfSome pool (IsPool p self.entry.arcs.range.limit) → IfSome result.pools (ArePools p self.entry.arcs.range.limit) }
         ensures prices { IfSome result.prices (λ prices.
             prices ≡ record { problem = self.entry.arcs.problem; limit = self.entry.arcs.range.limit }) }
     {
-        let limit = self.arcs.range().limit;
         let bound = self.bound;
         if let Some(pool) = pool {
             return Generation {
-                limit,
                 bound,
                 pools: Some(Pools::Whole(pool)),
                 prices: None,
+                routes,
             };
         }
         let prices = match self.leaf_prices() {
@@ -156,10 +151,10 @@ impl<'a> Progress<'a> {
             None => None,
         };
         Generation {
-            limit,
             bound,
             pools: None,
             prices,
+            routes,
         }
     }
 }

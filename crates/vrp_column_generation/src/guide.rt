@@ -20,6 +20,8 @@ use vrp_separation::{CutSearch, ONE, RowSearch, violated_entries, violated_rows}
 /// What may be spent on dual prices, and on the list of routes.
 #[derive(Clone, Copy, Debug)]
 pub struct Settings {
+    /// The most passes and rounds of subset rows before there is a branch or an end.
+    pub most_rounds: u32,
     /// The most labels of a pricing, and of a pass.
     pub most_labels: usize,
     /// The most labels of all pricings together, about.
@@ -232,11 +234,9 @@ impl Guide {
         self.master.routes()
     }
 
-    /// Plans may cost no more than this. Whether that is less than before.
-    pub(crate) fn lower_limit(&mut self, cost: u64) -> bool {
-        let is_lower = cost < self.limit;
-        self.limit = self.limit.min(cost);
-        is_lower
+    /// The most rounds of subset rows at the root.
+    pub(crate) fn most_rounds(&self) -> u32 {
+        self.settings.most_rounds
     }
 
     /// Adds a row for a limit on trucks, if there is one.

@@ -34,36 +34,35 @@ pub(crate) fn generate_leaves<'a, R: Threads + Sync, W: Watch + Sync>(
     requires few { place_count instance.now ≤ PLACES }
     requires problem { root.arcs.problem ≡ instance.now }
     requires all { root.arcs.range ≡ plans_within root.arcs.range.limit }
-    ensures limit { IfOk result (λ made. made.limit ≡ root.entry.arcs.range.limit) }
     ensures bound { IfOk result (λ made. BoundsPlansIn root.entry.arcs.problem root.entry.arcs.range made.bound) }
     ensures pools { IfOk result (λ made. IfSome made.pools (ArePools root.entry.arcs.problem root.entry.arcs.range.limit)) }
     ensures prices { IfOk result (λ made. IfSome made.prices (λ prices.
         prices ≡ record { problem = root.entry.arcs.problem; limit = root.entry.arcs.range.limit })) }
 {
-    let limit = root.arcs.range().limit;
     let leaves = root.arcs.range().split(fewer);
     let (few_row, many_row) = guide.leaf_rows(fewer);
     let few = run_leaf(crew, instance, &root, guide, &near, leaves.few, few_row)?;
     let many = run_leaf(crew, instance, &root, guide, &near, leaves.many, many_row)?;
     let guess = guide.guess();
+    let routes = guide.routes()?;
     let bound = few.progress.bound.min(many.progress.bound);
     let pools = pools_of_both(leaves, few.pool, many.pool);
     if pools.is_some() {
         drop(root);
         drop(near);
         return Ok(Generation {
-            limit,
             bound,
             pools,
             prices: None,
+            routes,
         });
     }
     let prices = prices_of_both(root, few.progress, many.progress, near, guess);
     Ok(Generation {
-        limit,
         bound,
         pools,
         prices,
+        routes,
     })
 }
 
@@ -89,7 +88,6 @@ fn run_leaf<'a, R: Threads + Sync, W: Watch + Sync>(
             progress,
             pool: None,
             branch: None,
-            is_over: true,
         });
     };
     let last = run_rounds(crew, instance, progress, &mut own, near, LEAF_ROUNDS);

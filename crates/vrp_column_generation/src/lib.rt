@@ -11,15 +11,12 @@ mod leaf_prices;
 mod leaves;
 mod master;
 mod pace;
-mod plan_finder;
 mod pools;
 mod program_rows;
 mod progress;
-mod root;
 mod rounds;
 
 pub use generation::{Generation, generate_routes};
 pub use guide::Settings;
 pub use last_prices::LastPrices;
-pub use plan_finder::PlanFinder;
 pub use pools::{LeafPools, Pools};

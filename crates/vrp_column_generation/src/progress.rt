@@ -1,11 +1,11 @@
 //! How far the passes have come: the arcs that are left, the best lower bound, and the last prices.
-ghost use Rattle.std.specs.Prelude.{◌≡◌, IfOk, IfSome, min};
+ghost use Rattle.std.specs.Prelude.{◌≡◌, IfOk, IfSome};
 ghost use Rattle.std.specs.Option.{ForSome};
 ghost use Rattle.vrp_column_generation.specs.Progress.{AreFor};
 ghost use Rattle.vrp_duals.specs.Duals.{AreDualsOf};
 ghost use Rattle.vrp_priced_routes.specs.Priced.{BoundsPlansIn};
 ghost use Rattle.vrp_routes.specs.Pool.{IsPoolIn};
-ghost use Rattle.vrp_routes.specs.Range.{IsPart, plans_within};
+ghost use Rattle.vrp_routes.specs.Range.{IsPart};
 
 use crate::guide::Prices;
 use crate::leaf_prices::{LeafPrices, pool_of};
@@ -65,20 +65,6 @@ impl<'a> Progress<'a> {
             arcs: self.arcs.part(alloc, range)?,
             bound: self.bound,
             duals: None,
-        })
-    }
-
-    /// The same for the plans that cost no more than this, or than the limit if that is lower.
-    pub(crate) fn within(self, alloc: Global, cost: u64) -> Result<Progress<'a>, NoMemory>
-        requires { self.arcs.range ≡ plans_within self.arcs.range.limit }
-        ensures { IfOk result (λ lower. AreFor self.entry.arcs.problem (plans_within (min cost self.entry.arcs.range.limit)) lower.arcs) }
-    {
-        let range = PlanRange::within(cost.min(self.arcs.range().limit));
-        let arcs = self.arcs.part(alloc, range)?;
-        Ok(Progress {
-            arcs,
-            bound: self.bound,
-            duals: self.duals,
         })
     }
 

@@ -19,8 +19,6 @@ pub(crate) struct AfterRounds<'a> {
     pub(crate) pool: Option<RoutePool>,
     /// If two leaves are worth more: how many routes the plans of the one leaf have at most.
     pub(crate) branch: Option<u16>,
-    /// Whether no better prices were found; else the rounds were all made.
-    pub(crate) is_over: bool,
 }
 
 /// How many rounds of subset rows are made, and whether they may end in a branch.
@@ -30,13 +28,17 @@ pub(crate) struct RoundLimits {
     pub(crate) may_branch: bool,
 }
 
-/// As many rounds as it takes, and then a branch.
-pub(crate) const ALL_ROUNDS: RoundLimits = RoundLimits {
-    most: 400,
-    may_branch: true,
-};
+impl RoundLimits {
+    /// So many rounds at most, and then maybe a branch.
+    pub(crate) fn of_root(most: u32) -> RoundLimits {
+        RoundLimits {
+            most,
+            may_branch: true,
+        }
+    }
+}
 
-/// The same without a branch.
+/// As many rounds as it takes in a leaf.
 pub(crate) const LEAF_ROUNDS: RoundLimits = RoundLimits {
     most: 400,
     may_branch: false,
@@ -71,12 +73,7 @@ pub(crate) fn run_rounds<'a, R: Threads + Sync, W: Watch + Sync>(
     let mut pace = Pace::new(guide.in_price_units(limit));
     for _ in 0..limits.most {
         let Some(prices) = guide.next_prices(crew, instance, progress.arcs.followers())? else {
-            return Ok(AfterRounds {
-                progress,
-                pool: None,
-                branch: None,
-                is_over: true,
-            });
+            break;
         };
         let bound = guide.bound_by(&prices);
         let are_final = prices.are_final;
@@ -94,7 +91,6 @@ pub(crate) fn run_rounds<'a, R: Threads + Sync, W: Watch + Sync>(
                 progress: next,
                 branch: if pool.is_some() { None } else { branch },
                 pool,
-                is_over: true,
             });
         }
         drop(pool);
@@ -107,7 +103,6 @@ pub(crate) fn run_rounds<'a, R: Threads + Sync, W: Watch + Sync>(
         progress,
         pool: None,
         branch: None,
-        is_over: false,
     })
 }
 

@@ -11,7 +11,7 @@ ghost use Rattle.vrp_model.specs.declared.limits.TheConstants.{NO_COST};
 ghost use Rattle.vrp_priced_routes.specs.Priced.{BoundsPlans};
 ghost use Rattle.vrp_column_generation.specs.Pools.{ArePools};
 
-use crate::cheaper_plans::CheaperPlans;
+use crate::cheaper_plans::cheaper_plan;
 use crate::choice::chosen_plan;
 use crate::guesses::plan_by_guesses;
 use crate::look::LEAST_PREPARED_BUDGET;
@@ -25,7 +25,6 @@ use vrp_canonical::RoutesOutcome;
 use vrp_column_generation::{Generation, Settings, generate_routes};
 use vrp_model::{Instance, NoMemory, Plan, canonical_is_cheapest, plans_cost_less};
 use vrp_routes::can_list;
-use vrp_search_tree::cheaper_plan;
 
 // The most labels of a pricing and of a pass: with more, a round takes too long.
 const MOST_LABELS: usize = 3_000_000;
@@ -35,6 +34,14 @@ const MOST_LISTED: u32 = 5_000_000;
 
 // A list of so many labels takes about a second, and the choice among its routes a few.
 const ENOUGH_LISTED: u32 = 150_000;
+
+// The rounds of column generation: as many as it takes.
+const ALL_ROUNDS: u32 = 400;
+
+// With so many customers a plan may be too dear, so there are few rounds before cheaper plans are sought.
+const MANY_CUSTOMERS: u16 = 126;
+
+const FIRST_ROUNDS: u32 = 8;
 
 // The most subset rows: each lengthens the closing of labels.
 const MOST_ROWS: usize = 240;
@@ -86,18 +93,53 @@ fn plan_from<R: Threads + Sync, G: Gate + Sync>(
     }
     // A plan costs less than none.
     plans_cost_less();
-    let _customers = shared.instance.customers();
-    let GeneratedRoutes { made, word } = generated(shared, routes, workers, known)?;
-    let best = cheaper_plan(
-        shared.alloc,
-        shared.instance,
-        &word,
-        known.copy(shared.alloc)?,
-    );
-    drop(word);
-    let best = best?;
-    let outcome = chosen_from(shared, workers, &best, made);
+    let rounds = first_rounds(shared.instance);
+    let first = generated(shared, routes, workers, known, rounds)?;
+    if first.pools.is_some() {
+        return chosen_from(shared, workers, known, known.cost(), first);
+    }
+    let known_again = known.copy(shared.alloc)?;
+    let best = cheaper_plan(shared, workers, &first.routes, known_again)?;
+    let outcome = chosen_again(shared, workers, known, &best, first);
     Ok(with_plan(outcome?, best))
+}
+
+// How many rounds come before cheaper plans are sought. With many customers a plan that is too dear makes each round longer.
+fn first_rounds(instance: &Instance) -> u32 {
+    if instance.customers() < MANY_CUSTOMERS {
+        ALL_ROUNDS
+    } else {
+        FIRST_ROUNDS
+    }
+}
+
+// The canonical plan, sought with a plan that is as cheap as the known one, or cheaper. If it is cheaper, or rounds are left, column generation
+// begins again from the routes that it found.
+fn chosen_again<R: Threads + Sync, G: Gate + Sync>(
+    shared: &Shared<'_, R, G>,
+    workers: u32,
+    known: &Plan,
+    best: &Plan,
+    first: Generation<'_>,
+) -> Result<RoutesOutcome, NoMemory>
+    requires few { place_count shared.now.problem ≤ PLACES }
+    requires some_worker { 1 ≤ workers }
+    requires few_workers { workers ≤ 64 }
+    requires best { IsPlanOf shared.now.problem best.now }
+    requires bound { BoundsPlans shared.now.problem known.now.cost first.bound }
+    requires pools { IfSome first.pools (ArePools shared.now.problem known.now.cost) }
+    requires prices { IfSome first.prices (λ prices. prices ≡ record { problem = shared.now.problem; limit = known.now.cost }) }
+    ensures canonical { IfOk result (IfCanonical (IsCanonical shared.now.problem)) }
+    ensures better { IfOk result (IfBetter (IsPlanOf shared.now.problem)) }
+    ensures bound { IfOk result (IfBound (NoneCheaper shared.now.problem)) }
+{
+    if best.cost() >= known.cost() && first_rounds(shared.instance) == ALL_ROUNDS {
+        return chosen_from(shared, workers, best, known.cost(), first);
+    }
+    plans_cost_less();
+    let again = generated(shared, &first.routes, workers, best, ALL_ROUNDS);
+    drop(first);
+    chosen_from(shared, workers, best, best.cost(), again?)
 }
 
 // The canonical plan among the routes that column generation has left.
@@ -105,23 +147,24 @@ fn chosen_from<R: Threads + Sync, G: Gate + Sync>(
     shared: &Shared<'_, R, G>,
     workers: u32,
     known: &Plan,
+    limit: u64,
     made: Generation<'_>,
 ) -> Result<RoutesOutcome, NoMemory>
     requires few { place_count shared.now.problem ≤ PLACES }
     requires some_worker { 1 ≤ workers }
     requires few_workers { workers ≤ 64 }
-    requires bound { BoundsPlans shared.now.problem made.limit made.bound }
-    requires pools { IfSome made.pools (ArePools shared.now.problem made.limit) }
-    requires prices { IfSome made.prices (λ prices. prices ≡ record { problem = shared.now.problem; limit = made.limit }) }
+    requires bound { BoundsPlans shared.now.problem limit made.bound }
+    requires pools { IfSome made.pools (ArePools shared.now.problem limit) }
+    requires prices { IfSome made.prices (λ prices. prices ≡ record { problem = shared.now.problem; limit = limit }) }
     ensures canonical { IfOk result (IfCanonical (IsCanonical shared.now.problem)) }
     ensures better { IfOk result (IfBetter (IsPlanOf shared.now.problem)) }
     ensures bound { IfOk result (IfBound (NoneCheaper shared.now.problem)) }
 {
     let Generation {
-        limit,
         bound,
         pools,
         prices,
+        ..
     } = made;
     let bound = bound_on_all(shared.instance, limit, bound);
     shared
@@ -192,52 +235,40 @@ fn with_bound(outcome: RoutesOutcome, bound: u64) -> RoutesOutcome
     }
 }
 
-// What column generation leaves, and the word of the cheapest plan that was found meanwhile.
-#[derive(Drop)]
-struct GeneratedRoutes<'a> {
-    made: Generation<'a>,
-    word: Vec<u16>,
-}
-
-// Column generation from the routes of heuristic plans.
+// Column generation for plans that cost no more than a known one, from its routes and these.
 fn generated<'a, R: Threads + Sync, G: Gate + Sync>(
     shared: &Shared<'a, R, G>,
     routes: &[Vec<u16>],
     workers: u32,
     known: &Plan,
-) -> Result<GeneratedRoutes<'a>, NoMemory>
+    most_rounds: u32,
+) -> Result<Generation<'a>, NoMemory>
     requires few { place_count shared.now.problem ≤ PLACES }
     requires limit { known.now.cost ≤ NO_COST }
     requires some_worker { 1 ≤ workers }
     requires few_workers { workers ≤ 64 }
-    ensures bound { IfOk result (λ found. BoundsPlans shared.now.problem found.made.limit found.made.bound) }
-    ensures pools { IfOk result (λ found. IfSome found.made.pools (ArePools shared.now.problem found.made.limit)) }
-    ensures prices { IfOk result (λ found. IfSome found.made.prices (λ prices.
-        prices ≡ record { problem = shared.now.problem; limit = found.made.limit })) }
+    ensures bound { IfOk result (λ made. BoundsPlans shared.now.problem known.now.cost made.bound) }
+    ensures pools { IfOk result (λ made. IfSome made.pools (ArePools shared.now.problem known.now.cost)) }
+    ensures prices { IfOk result (λ made. IfSome made.prices (λ prices. prices ≡ record { problem = shared.now.problem; limit = known.now.cost })) }
 {
     shared.gate.on_event(Event::Begins(Stage::Columns));
-    let settings = settings_of(shared);
+    let settings = Settings {
+        most_rounds,
+        ..settings_of(shared)
+    };
     let first = first_routes(shared.alloc, known, routes)?;
     let watch = StageWatch::of_stage(shared, Stage::Columns);
     let crew = crew_of(shared, workers, &watch);
-    let mut finder = CheaperPlans::new(&crew, shared.instance, known.word())?;
-    let made = generate_routes(
-        &crew,
-        shared.instance,
-        known.cost(),
-        &first,
-        &mut finder,
-        settings,
-    );
+    let made = generate_routes(&crew, shared.instance, known.cost(), &first, settings);
     drop(first);
-    let word = finder.into_word();
-    Ok(GeneratedRoutes { made: made?, word })
+    made
 }
 
 /// What column generation may use, and what is enough for it.
 pub(crate) fn settings_of<R, G: Gate>(shared: &Shared<'_, R, G>) -> Settings {
     let share = share_of(Stage::Columns, shared.instance.customers(), shared.budget);
     Settings {
+        most_rounds: ALL_ROUNDS,
         most_labels: MOST_LABELS,
         most_priced: share.work_for(shared.budget_in_all()),
         most_listed: MOST_LISTED,
