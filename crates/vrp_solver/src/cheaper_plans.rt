@@ -1,5 +1,5 @@
 //! Cheaper plans after column generation: over the routes that it found, and by a population.
-ghost use Rattle.std.specs.Prelude.{IfOk};
+ghost use Rattle.std.specs.Prelude.{◌≤◌, IfOk};
 ghost use Rattle.vrp_model.specs.Route.{IsPlanOf};
 
 use crate::stage_watch::{StageWatch, crew_of};

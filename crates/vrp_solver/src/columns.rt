@@ -93,6 +93,7 @@ fn plan_from<R: Threads + Sync, G: Gate + Sync>(
     }
     // A plan costs less than none.
     plans_cost_less();
+    let _customers = shared.instance.customers();
     let rounds = first_rounds(shared.instance);
     let first = generated(shared, routes, workers, known, rounds)?;
     if first.pools.is_some() {
@@ -137,6 +138,7 @@ fn chosen_again<R: Threads + Sync, G: Gate + Sync>(
         return chosen_from(shared, workers, best, known.cost(), first);
     }
     plans_cost_less();
+    let _customers = shared.instance.customers();
     let again = generated(shared, &first.routes, workers, best, ALL_ROUNDS);
     drop(first);
     chosen_from(shared, workers, best, best.cost(), again?)
