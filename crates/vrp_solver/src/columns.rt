@@ -16,7 +16,7 @@ use crate::choice::chosen_plan;
 use crate::guesses::plan_by_guesses;
 use crate::look::LEAST_PREPARED_BUDGET;
 use crate::stage_watch::{StageWatch, crew_of};
-use crate::stages::share_of;
+use crate::stages::{MANY_CUSTOMERS, share_of};
 use std::alloc::Global;
 use std::thread::Threads;
 use vrp_answer::{Event, Gate, Shared, Stage};
@@ -38,9 +38,7 @@ const ENOUGH_LISTED: u32 = 150_000;
 // The rounds of column generation: as many as it takes.
 const ALL_ROUNDS: u32 = 400;
 
-// With so many customers a plan may be too dear, so there are few rounds before cheaper plans are sought.
-const MANY_CUSTOMERS: u16 = 126;
-
+// So many come before cheaper plans are sought, if there are many customers.
 const FIRST_ROUNDS: u32 = 8;
 
 // The most subset rows: each lengthens the closing of labels.
@@ -49,9 +47,10 @@ const MOST_ROWS: usize = 240;
 // Two leaves are worth their time if the gap is so many thousandths of the known cost.
 const WORTH_LEAVES: u16 = 3;
 
-/// The canonical plan, by column generation, which begins with these routes of heuristic plans. It isn't found without a start plan, with a budget below `LEAST_PREPARED_BUDGET`, or if a limit
-/// is met first: there are too many customers or labels, the budget is spent, or the gate stops the search. Each label of a pricing, and
-/// each reduced cost that the choice looks at, counts as a partial plan. There are 1 to 64 workers. The only error is lack of memory.
+/// The canonical plan, by column generation, which begins with these routes of heuristic plans. It isn't found without a start plan, with a
+/// budget below `LEAST_PREPARED_BUDGET`, or if a limit is met first: there are too many customers or labels, the budget is spent, or the gate
+/// stops the search. Each label of a pricing, and each reduced cost that the choice looks at, counts as a partial plan. There are 1 to 64
+/// workers. The only error is lack of memory.
 pub(crate) fn plan_by_columns<R: Threads + Sync, G: Gate + Sync>(
     shared: &Shared<'_, R, G>,
     routes: &[Vec<u16>],
@@ -94,9 +93,9 @@ fn plan_from<R: Threads + Sync, G: Gate + Sync>(
     // A plan costs less than none.
     plans_cost_less();
     let _customers = shared.instance.customers();
-    let rounds = first_rounds(shared.instance);
+    let rounds = first_rounds(shared);
     let first = generated(shared, routes, workers, known, rounds)?;
-    if first.pools.is_some() {
+    if first.pools.is_some() || has_later_stage(shared) {
         return chosen_from(shared, workers, known, known.cost(), first);
     }
     let known_again = known.copy(shared.alloc)?;
@@ -105,9 +104,14 @@ fn plan_from<R: Threads + Sync, G: Gate + Sync>(
     Ok(with_plan(outcome?, best))
 }
 
+// Whether cheaper plans are sought in a stage of their own.
+fn has_later_stage<R, G: Gate>(shared: &Shared<'_, R, G>) -> bool {
+    shared.instance.customers() >= MANY_CUSTOMERS && shared.gate.milliseconds_left().is_some()
+}
+
 // How many rounds come before cheaper plans are sought. With many customers a plan that is too dear makes each round longer.
-fn first_rounds(instance: &Instance) -> u32 {
-    if instance.customers() < MANY_CUSTOMERS {
+fn first_rounds<R, G: Gate>(shared: &Shared<'_, R, G>) -> u32 {
+    if shared.instance.customers() < MANY_CUSTOMERS || has_later_stage(shared) {
         ALL_ROUNDS
     } else {
         FIRST_ROUNDS
@@ -134,14 +138,16 @@ fn chosen_again<R: Threads + Sync, G: Gate + Sync>(
     ensures better { IfOk result (IfBetter (IsPlanOf shared.now.problem)) }
     ensures bound { IfOk result (IfBound (NoneCheaper shared.now.problem)) }
 {
-    if best.cost() >= known.cost() && first_rounds(shared.instance) == ALL_ROUNDS {
+    if best.cost() >= known.cost() && first_rounds(shared) == ALL_ROUNDS {
         return chosen_from(shared, workers, best, known.cost(), first);
     }
+    let bound = bound_on_all(shared.instance, known.cost(), first.bound);
     plans_cost_less();
     let _customers = shared.instance.customers();
     let again = generated(shared, &first.routes, workers, best, ALL_ROUNDS);
     drop(first);
-    chosen_from(shared, workers, best, best.cost(), again?)
+    let outcome = chosen_from(shared, workers, best, best.cost(), again?)?;
+    Ok(with_bound(outcome, bound))
 }
 
 // The canonical plan among the routes that column generation has left.
