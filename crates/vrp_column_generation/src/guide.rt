@@ -30,7 +30,7 @@ pub struct Settings {
     pub most_listed: u32,
     /// The most labels of a list for the limit that prices are found for.
     pub enough_listed: u32,
-    /// The most subset rows with a price. The program may have others too.
+    /// The most subset rows; with many customers those without a price don't count.
     pub most_rows: usize,
     /// Where the number of routes in a solution isn't whole, two leaves are worth it if the gap is so many thousandths of the limit.
     pub worth_leaves: u16,
@@ -75,6 +75,9 @@ const ROWS_WITH_A_CUSTOMER: u8 = 6;
 
 // How many customers are moved in or out of a set where routes are short.
 const CUT_MOVES: u32 = 20;
+
+// From this many customers on only the subset rows with a price count: with fewer, more rows take longer than they gain.
+const MANY_CUSTOMERS: u16 = 126;
 
 // Routes with at most so many customers on average are short.
 const SHORT_ROUTE: u64 = 14;
@@ -403,8 +406,12 @@ impl Guide {
     pub(crate) fn add_subset_rows(&mut self) -> Result<usize, NoMemory> {
         let used = self.master.used()?;
         let known = self.master.subset_rows()?;
-        let priced = self.master.priced_subset_rows();
-        let room = self.settings.most_rows.saturating_sub(priced);
+        let counted = if self.customers.len() < MANY_CUSTOMERS {
+            known.len()
+        } else {
+            self.master.priced_subset_rows()
+        };
+        let room = self.settings.most_rows.saturating_sub(counted);
         let search = RowSearch {
             most: ROWS_AT_ONCE.min(room),
             most_each: ROWS_WITH_A_CUSTOMER,
