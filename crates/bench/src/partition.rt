@@ -12,8 +12,7 @@ use std::fs;
 use std::rt::{Clock, Files};
 use std::thread::Threads;
 use std::time::Instant;
-use vrp_customers::FleetView;
-use vrp_model::{Crew, Unhurried};
+use vrp_model::{Crew, FleetView, Unhurried};
 use vrp_partition::{Found, Task, all_fit, cheapest_choice};
 use vrp_simplex::ProgramGuide;
 

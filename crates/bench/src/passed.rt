@@ -3,9 +3,8 @@ ghost use Rattle.std.specs.Prelude.{◌≡◌, IfOk};
 ghost use Rattle.vrp_duals.specs.Duals.{AreDualsOf};
 
 use anyhow::{Result, bail};
-use vrp_customers::CustomerSet;
 use vrp_duals::Duals;
-use vrp_model::{Crew, Unhurried};
+use vrp_model::{Crew, CustomerSet, Unhurried};
 use vrp_priced_routes::{AliveArcs, Pass, Passed, run_pass};
 
 // The number of labels of a pass.

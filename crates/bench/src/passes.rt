@@ -10,8 +10,7 @@ use anyhow::{Context, Result, bail, ensure};
 use std::alloc::Global;
 use std::thread::Threads;
 use test_fixtures::{Canonical, Random, canonical_plan};
-use vrp_customers::PLACES;
-use vrp_model::{Crew, Instance, NO_COST, Unhurried};
+use vrp_model::{Crew, Instance, NO_COST, PLACES, Unhurried};
 use vrp_priced_routes::{AliveArcs, Pass};
 use vrp_routes::{Leaves, Listed, PlanRange, RoutePool};
 

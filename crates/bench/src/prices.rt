@@ -10,7 +10,7 @@ use anyhow::{Context, Result, bail, ensure};
 use std::rt::{Clock, Files};
 use std::thread::Threads;
 use std::time::Instant;
-use vrp_bound_ascent::{FoundPrices, MAX_BOUND_TABLE, find_prices};
+use vrp_bound_prices::{FoundPrices, MAX_BOUND_TABLE, find_prices};
 use vrp_model::{Instance, MOST_NEAR, Unhurried};
 
 // How prices are found.

@@ -20,7 +20,7 @@ use std::time::Instant;
 use vrp_bound::Tables;
 use vrp_heuristic::savings_plan;
 use vrp_model::{Instance, NoMemory, Plan};
-use vrp_search::{Cutting, Local, MAX_PIECES};
+use vrp_search_tree::{Cutting, Local, MAX_PIECES};
 
 // How an instance is searched.
 #[derive(Clone, Copy)]

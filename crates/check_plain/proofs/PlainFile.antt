@@ -3,12 +3,12 @@ use Rattle.std.proofs.Common.{◌≡◌, ℕ, suc, ◌+◌, ◌*◌, ◌≤◌, 
 use Rattle.std.specs.Prelude.{codes, slice_get}
 use Rattle.std.proofs.lemmas.Bool.{cases_Bool}
 use Rattle.std.proofs.lemmas.List.{drop-drop}
-use Rattle.vrp_text_lexer.specs.Line.{Line, Heading, Data, line_of}
+use Rattle.vrp_text.specs.Line.{Line, Heading, Data, line_of}
 use Rattle.check_plain.specs.Plain.{Statement, IsHead, IsPointLine, IsDemandLine, IsTail, IsBody, is_remark, without_remarks, line}
 use Rattle.check_plain.specs.Plain.{tokens_of as plain_tokens}
-use Rattle.vrp_text_lexer.specs.declared.key.Key.{Key}
-use Rattle.vrp_text_lexer.specs.declared.key.Key.TheVariants as key
-use Rattle.vrp_text_lexer.specs.declared.keyword.Keyword.TheVariants as keyword
+use Rattle.vrp_text.specs.declared.lexer.key.Key.{Key}
+use Rattle.vrp_text.specs.declared.lexer.key.Key.TheVariants as key
+use Rattle.vrp_text.specs.declared.lexer.keyword.Keyword.TheVariants as keyword
 use Rattle.check_plain.proofs.PlainNumbers.{Writes, number_is}
 use Rattle.check_plain.proofs.PlainLines.{three_line, two_line, number_line, dimension_line, capacity_line, remark_line, type_line, metric_line, points_line, demands_line, depots_line, depots_end, end_line}
 use Rattle.check_plain.proofs.PlainParts.{Tokens, data_before, remarks_before, heading, depot_rows, demand_lines, plain_lines}

@@ -9,14 +9,14 @@ use Rattle.vrp_model.specs.Problem.{Problem}
 use Rattle.vrp_model.specs.Request.{IsAcceptable, request_of, problem_of, is_listed, node_demand}
 use Rattle.vrp_model.specs.declared.metric.Metric.TheVariants as metric
 use Rattle.vrp_text.specs.Complete.{Complete, Points, complete_of, count_fault, nodes_fault, no_node, listed_depots, node_fault, bad_node, row_nodes, demands_of}
-use Rattle.vrp_text_lexer.specs.Line.{Line, lines_of}
+use Rattle.vrp_text.specs.Line.{Line, lines_of}
 use Rattle.vrp_text.specs.Meaning.{MeansProblem, reading_of, reading_of_lines, file_line_fault, all_stated, checked, or_fault, request_from}
-use Rattle.vrp_text_lexer.specs.Part.{before_end, leading_data, parts_from}
+use Rattle.vrp_text.specs.Part.{before_end, leading_data, parts_from}
 use Rattle.check_plain.specs.Plain.{Statement, IsBody, Spells, without_remarks}
 use Rattle.check_plain.specs.PlainMeaning.{MeansPlainly, FitsTrucks}
 use Rattle.check_plain.specs.PlainMeaning.{request_from as plain_request}
 use Rattle.vrp_text.specs.Stated.{stated_by, Stated}
-use Rattle.vrp_text_lexer.specs.declared.key.Key.TheVariants as key
+use Rattle.vrp_text.specs.declared.lexer.key.Key.TheVariants as key
 use Rattle.check_plain.proofs.PlainFile.{BodyLines, body_lines, SplitsRemarks, split_remarks}
 use Rattle.check_plain.proofs.PlainOrder.{nodes_from, length-points, length-demands, point_nodes, demand_nodes, points_back, demands_back, node_is, no_bad_node}
 use Rattle.check_plain.proofs.PlainParts.{remarks_before, plain_lines, plain_stated, lines_before_end, leading_plain, ReadsFile, Reads, reads_file}

@@ -9,12 +9,12 @@ use Rattle.std.proofs.lemmas.Bool.Decides.{nat_tests}
 use Rattle.std.proofs.lemmas.List.{take-append-drop}
 use Rattle.std.proofs.lemmas.List.Elements.{All-nil, All-cons, All-head, All-tail}
 use Rattle.std.proofs.lemmas.List.Splits.{slice_split-cons_yes, slice_split-cons_no, slice_split_none}
-use Rattle.vrp_text_lexer.specs.Bytes.{is_blank, skip_while}
-use Rattle.vrp_text_lexer.specs.Line.{Heading, Data, line_of, tokens_of}
+use Rattle.vrp_text.specs.Bytes.{is_blank, skip_while}
+use Rattle.vrp_text.specs.Line.{Heading, Data, line_of, tokens_of}
 use Rattle.check_plain.specs.Plain.{number_of, number_after, is_remark}
 use Rattle.check_plain.specs.Plain.{tokens_of as plain_tokens}
-use Rattle.vrp_text_lexer.specs.declared.key.Key.TheVariants as key
-use Rattle.vrp_text_lexer.specs.declared.keyword.Keyword.TheVariants as keyword
+use Rattle.vrp_text.specs.declared.lexer.key.Key.TheVariants as key
+use Rattle.vrp_text.specs.declared.lexer.keyword.Keyword.TheVariants as keyword
 use Rattle.check_plain.proofs.PlainNumbers.{Writes, number_is, no_blank, first_no_letter}
 
 abbrev AreNoBlanks : List ℕ → Type 0

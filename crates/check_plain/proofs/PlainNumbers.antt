@@ -11,9 +11,9 @@ use Rattle.std.proofs.lemmas.Bool.{and_parts, and_from, cases_Bool, leb-true, eq
 use Rattle.std.proofs.lemmas.Bool.Decides.{nat_tests}
 use Rattle.std.proofs.lemmas.List.{take_all, drop_all}
 use Rattle.std.proofs.lemmas.List.Elements.{All-nil, All-cons}
-use Rattle.vrp_text_lexer.specs.Bytes.{skip_while, is_blank}
-use Rattle.vrp_text_lexer.specs.Numeral.{Numeral, Power, numeral_of, numeral_with, power_of, has_point, is_minus, without_sign, whole_value, signed, in_range, value_in_range}
-use Rattle.vrp_text_lexer.specs.Numeral.{number_of as number_in}
+use Rattle.vrp_text.specs.Bytes.{skip_while, is_blank}
+use Rattle.vrp_text.specs.Numeral.{Numeral, Power, numeral_of, numeral_with, power_of, has_point, is_minus, without_sign, whole_value, signed, in_range, value_in_range}
+use Rattle.vrp_text.specs.Numeral.{number_of as number_in}
 use Rattle.check_plain.specs.Plain.{unsigned_number, number_of}
 
 -- one to ten digits

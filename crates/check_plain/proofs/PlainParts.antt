@@ -4,16 +4,16 @@ use Rattle.std.specs.Prelude.{codes, Ok}
 use Rattle.std.proofs.lemmas.Bool.{or_from}
 use Rattle.std.proofs.lemmas.List.Folds.{list_any-append}
 use Rattle.vrp_model.specs.declared.metric.Metric.TheVariants as metric
-use Rattle.vrp_text_lexer.specs.Line.{Line, Heading, Data}
-use Rattle.vrp_text_lexer.specs.Part.{Part, before_end, leading_data, parts_from}
+use Rattle.vrp_text.specs.Line.{Line, Heading, Data}
+use Rattle.vrp_text.specs.Part.{Part, before_end, leading_data, parts_from}
 use Rattle.vrp_text.specs.Section.{content_of, content_fault, data_fault, data_numbers}
 use Rattle.vrp_text.specs.Stated.{Stated, bears, is_borne, is_explicit, part_fault, parts_fault, stated_by, value_fault, fault_in}
-use Rattle.vrp_text_lexer.specs.Value.{dimension, capacity}
-use Rattle.vrp_text_lexer.specs.declared.key.Key.{Key}
-use Rattle.vrp_text_lexer.specs.declared.key.Key.TheVariants as key
-use Rattle.vrp_text_lexer.specs.declared.keyword.Keyword.TheVariants as keyword
+use Rattle.vrp_text.specs.Value.{dimension, capacity}
+use Rattle.vrp_text.specs.declared.lexer.key.Key.{Key}
+use Rattle.vrp_text.specs.declared.lexer.key.Key.TheVariants as key
+use Rattle.vrp_text.specs.declared.lexer.keyword.Keyword.TheVariants as keyword
 use Rattle.vrp_text.specs.declared.section.Section.TheVariants as section
-use Rattle.vrp_text_lexer.specs.declared.value.WeightKind.TheVariants as kind
+use Rattle.vrp_text.specs.declared.lexer.value.WeightKind.TheVariants as kind
 
 -- lines of data before other lines
 abbrev pub data_before : List (List (List ℕ)) → List Line → List Line

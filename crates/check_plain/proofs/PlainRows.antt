@@ -6,7 +6,7 @@ use Rattle.std.proofs.lemmas.Bool.Decides.{nat_tests}
 use Rattle.std.proofs.lemmas.Int.{ints}
 use Rattle.vrp_model.specs.Grid.{IsCoordinate}
 use Rattle.vrp_text.specs.Section.{token_number, tokens_fault, numbers_from, data_fault, data_numbers}
-use Rattle.vrp_text_lexer.specs.Value.{dimension, capacity, stated_number}
+use Rattle.vrp_text.specs.Value.{dimension, capacity, stated_number}
 use Rattle.vrp_text.specs.declared.section.Section.{Section}
 use Rattle.vrp_text.specs.declared.section.Section.TheVariants as section
 use Rattle.check_plain.proofs.PlainNumbers.{Writes, number_in_is}

@@ -5,7 +5,7 @@ use Rattle.std.specs.List.{slice_split, starts_with}
 use Rattle.std.specs.Str.{all_ascii_digits}
 use Rattle.std.specs.Str.Parse.{digits_value}
 use Rattle.vrp_model.specs.Grid.{IsCoordinate}
-use Rattle.vrp_text_lexer.specs.declared.limits.TheConstants.{MAX_BYTES, MAX_DEMAND}
+use Rattle.vrp_text.specs.declared.lexer.limits.TheConstants.{MAX_BYTES, MAX_DEMAND}
 use Rattle.vrp_model.specs.declared.limits.TheConstants.{MAX_CAPACITY, MAX_NODES}
 
 -- The lines of a file: the text between its line feeds, and the text behind the last one.

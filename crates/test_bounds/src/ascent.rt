@@ -1,4 +1,4 @@
-//! Tests of `vrp_bound_ascent` by values from outside.
+//! Tests of the search for prices by values from outside.
 
 mod fine;
 mod found;

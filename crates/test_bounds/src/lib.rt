@@ -1,4 +1,4 @@
-//! Tests of the ng-sets of `vrp_model`, and of `vrp_bound`, `vrp_bound_prices` and `vrp_bound_ascent` by hand, with values from
+//! Tests of the ng-sets of `vrp_model`, and of `vrp_bound` and `vrp_bound_prices` by hand, with values from
 //! outside, and compared with plain slow programs. They are a separate crate, since a crate with tests is proved twice.
 #![tactic(auto)]
 

@@ -1,4 +1,4 @@
-//! Tests of `vrp_bound_ascent` against a program that follows each walk.
+//! Tests of the tables of least walks against a program that follows each walk.
 
 mod least_routes;
 mod ng_walks;

@@ -1,5 +1,5 @@
-//! Tests of `vrp_command`, `vrp_plan_write` and the hints of `vrp_command_streams` with values from outside. They are a separate crate,
-//! since a crate with tests is proved twice.
+//! Tests of `vrp_command`, writing in `vrp_plan_text` and the hints of `vrp_command_streams` with values from outside. They are a
+//! separate crate, since a crate with tests is proved twice.
 #![tactic(auto)]
 
 #[cfg(test)]

@@ -1,4 +1,4 @@
-//! Tests of `vrp_plan_write` and `vrp_plan_write` by values from outside.
+//! Tests of writing in `vrp_plan_text` by values from outside.
 
 mod export;
 mod fixture;

@@ -10,10 +10,9 @@ use std::alloc::Global;
 use std::process::Abort;
 use std::thread::Threads;
 use test_fixtures::{in_layout, one_each, with_arcs};
-use vrp_customers::{CustomerSet, PLACES};
 use vrp_duals::{Duals, EntryRow};
 use vrp_labels::ClosingLimit;
-use vrp_model::{Crew, Instance, Layout, NO_COST, Unhurried, Watch};
+use vrp_model::{Crew, CustomerSet, Instance, Layout, NO_COST, PLACES, Unhurried, Watch};
 use vrp_priced_routes::{AliveArcs, Pass, PassFault, Passed, nearest_sets, run_pass};
 use vrp_routes::{Listed, PlanRange};
 

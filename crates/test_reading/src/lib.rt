@@ -1,4 +1,4 @@
-//! Tests of `vrp_model` and of the reading crates with values from outside: `vrp_text_lexer`, `vrp_text` and `vrp_plan_read`.
+//! Tests of `vrp_model` and of the reading crates with values from outside: `vrp_text`, and reading in `vrp_plan_text`.
 //! They are a separate crate, since a crate with tests is proved twice.
 #![tactic(auto)]
 

@@ -4,7 +4,7 @@ use std::process::Abort;
 use std::test::*;
 use test_fixtures::with_arcs;
 use vrp_model::{Instance, MAX_NODES};
-use vrp_plan_read::{Solution, SolutionError};
+use vrp_plan_text::{Solution, SolutionError};
 
 // Five nodes on a line, a step apart, the depot at one end.
 const LINE: &[u64] = &[

@@ -1,4 +1,4 @@
-//! Tests of `vrp_text`, and of `vrp_text_lexer` below it, by values from outside.
+//! Tests of `vrp_text` by values from outside.
 
 mod accepted;
 mod cuts;

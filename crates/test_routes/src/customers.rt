@@ -3,7 +3,7 @@
 use crate::assertion::assert_same;
 use crate::sets::set_of;
 use test_fixtures::{Random, with_arcs};
-use vrp_customers::{CustomerSet, Fleet, PLACES, all_customers};
+use vrp_model::{CustomerSet, Fleet, PLACES, all_customers};
 use vrp_routes::can_list;
 
 // Whether each place is in a set.

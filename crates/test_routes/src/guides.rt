@@ -3,8 +3,7 @@
 use crate::random::{pair, some_customers};
 use std::alloc::{AllocError, Global};
 use test_fixtures::Random;
-use vrp_customers::{CustomerSet, PLACES};
-use vrp_model::Watch;
+use vrp_model::{CustomerSet, PLACES, Watch};
 use vrp_partition::{Cut, Guide, PriceOffer, Route, Task};
 
 /// Answers whether a search continues.

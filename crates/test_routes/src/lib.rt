@@ -1,4 +1,4 @@
-//! Tests of `vrp_customers`, `vrp_routes`, `vrp_canonical`, `vrp_partition` and `vrp_simplex` with values from outside. They are a separate
+//! Tests of sets of customers, `vrp_routes`, `vrp_canonical`, `vrp_partition` and `vrp_simplex` with values from outside. They are a separate
 //! crate, since a crate with tests is proved twice.
 #![tactic(auto)]
 

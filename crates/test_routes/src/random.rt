@@ -4,7 +4,7 @@ use crate::sets::set_of;
 use std::alloc::Global;
 use std::process::Abort;
 use test_fixtures::Random;
-use vrp_customers::CustomerSet;
+use vrp_model::CustomerSet;
 use vrp_partition::Route;
 
 /// All customers of random pools; they include the first and the last of a set.

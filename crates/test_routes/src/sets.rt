@@ -1,6 +1,6 @@
 //! Sets of customers, as lists.
 
-use vrp_customers::{CustomerSet, PLACES};
+use vrp_model::{CustomerSet, PLACES};
 
 /// The set of these customers; those that no set can hold are left out.
 pub(crate) fn set_of(customers: &[u16]) -> CustomerSet {

@@ -1,7 +1,7 @@
 //! A plain slow program: it tries every part of a pool, and keeps the least cost of those that are choices.
 
 use std::process::Abort;
-use vrp_customers::CustomerSet;
+use vrp_model::CustomerSet;
 use vrp_partition::Route;
 
 // The greatest number of routes of a pool here.

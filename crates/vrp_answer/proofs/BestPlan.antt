@@ -10,7 +10,7 @@ use Rattle.vrp_model.specs.Route.{IsLawful, IsPlanOf, PricedPlan, plan_cost}
 use Rattle.vrp_model.specs.Word.{word_cost, word_of}
 use Rattle.vrp_model.specs.declared.limits.TheConstants.{NO_COST}
 use Rattle.vrp_model.proofs.Ordered.{before_irreflexive, before_total, before_transitive, earlier_total, earlier_transitive}
-use Rattle.vrp_search.specs.Search.{IsNotBefore, NoneBeforeUnder}
+use Rattle.vrp_search_tree.specs.Search.{IsNotBefore, NoneBeforeUnder}
 use Rattle.vrp_answer.specs.Inner.Conclusion.{IsNoLater, IsOfferedTo}
 
 -- the plan, if there is one

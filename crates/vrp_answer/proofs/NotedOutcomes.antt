@@ -12,7 +12,7 @@ use Rattle.std.proofs.lemmas.List.Sorted.{IsPermutation-sym, IsPermutation-to_fr
 use Rattle.vrp_model.specs.Route.{IsPlanOf, PricedPlan}
 use Rattle.vrp_model.proofs.DistinctLists.{AreDistinct, AreDistinct-permutation}
 use Rattle.vrp_search_tree.specs.Cutting.{NumberedWord}
-use Rattle.vrp_search.specs.Search.{NoneBeforeUnder}
+use Rattle.vrp_search_tree.specs.Search.{NoneBeforeUnder}
 use Rattle.vrp_answer.specs.Gatherer.{IsAdded, AnswersAdd}
 use Rattle.vrp_answer.specs.Inner.Conclusion.{AreApart, AreNoted, IsOpenPieceOf, IsOfferedTo, numbers_of, piece_numbers}
 use Rattle.vrp_answer.specs.Outcomes.{AreOutcomes, IsFinishedPiece, IsOutcome, IsOpenPiece, Search}

@@ -4,9 +4,9 @@ use Rattle.vrp_model.specs.Problem.{Problem, customers}
 use Rattle.vrp_model.specs.Route.{PricedPlan}
 use Rattle.vrp_model.specs.Word.{IsPrefix}
 use Rattle.vrp_search_tree.specs.Cutting.{NumberedWord}
-use Rattle.vrp_search.specs.Search.{EndsSearch, IsFinished, IsUnfinished, NoneBeforeUnder}
-use Rattle.vrp_search.specs.declared.depth_first.Ended.{Ended}
-use Rattle.vrp_search.specs.declared.depth_first.Ended.TheVariants.{Finished, Unfinished}
+use Rattle.vrp_search_tree.specs.Search.{EndsSearch, IsFinished, IsUnfinished, NoneBeforeUnder}
+use Rattle.vrp_search_tree.specs.declared.piece_search.depth_first.Ended.{Ended}
+use Rattle.vrp_search_tree.specs.declared.piece_search.depth_first.Ended.TheVariants.{Finished, Unfinished}
 use Rattle.vrp_answer.specs.Outcomes.{IsFinishedPiece, IsOpenPiece, Search}
 
 -- no word is before what is known, where the floor is lower

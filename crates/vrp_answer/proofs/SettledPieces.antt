@@ -12,7 +12,7 @@ use Rattle.vrp_model.specs.Route.{PricedPlan}
 use Rattle.vrp_model.specs.Word.{IsPrefix, NoneCheaperUnder, unserved_in}
 use Rattle.vrp_model.proofs.DistinctLists.{AreDistinct-permutation, head_differs, tail_distinct}
 use Rattle.vrp_search_tree.specs.Low.{IsLow}
-use Rattle.vrp_search.specs.Search.{NoneBeforeUnder}
+use Rattle.vrp_search_tree.specs.Search.{NoneBeforeUnder}
 use Rattle.vrp_answer.specs.Answer.{IsOwnLow, piece_of}
 use Rattle.vrp_answer.specs.Gatherer.{IsAdded, AnswersAdd, IsMissing}
 use Rattle.vrp_answer.specs.Inner.Conclusion.{AreOpenPieces, IsOpenPieceAt, IsLeftWith, IsLowFor, IsSettled, numbers_of}

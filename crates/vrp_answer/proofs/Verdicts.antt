@@ -15,7 +15,7 @@ use Rattle.vrp_model.specs.Word.{BeginsWith, IsLawfulWord, word_cost, word_of}
 use Rattle.vrp_model.specs.declared.limits.TheConstants.{NO_COST}
 use Rattle.vrp_sharing.specs.Pile.{AreShared}
 use Rattle.vrp_search_tree.specs.Cutting.{AreNumbered, IsCutting, NumberedWord}
-use Rattle.vrp_search.specs.Search.{IsNotBefore, NoneBeforeUnder}
+use Rattle.vrp_search_tree.specs.Search.{IsNotBefore, NoneBeforeUnder}
 use Rattle.vrp_answer.specs.Answer.{IsAnswer, IsLeastLow, IsLeftOpen, known_plan, piece_of}
 use Rattle.vrp_answer.specs.Gatherer.{IsAdded, IsFirstMissing, IsMissing}
 use Rattle.vrp_answer.specs.Inner.Conclusion.{AreNoted, AreOpenPieces, IsLeftWith, IsNoLater, IsVerdict, numbers_of}

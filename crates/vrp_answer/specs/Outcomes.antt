@@ -8,8 +8,8 @@ use Rattle.vrp_model.specs.Word.{IsPrefix, NoneCheaperUnder, TreeHasAtLeast}
 use Rattle.vrp_sharing.specs.Pile.{AreShared}
 use Rattle.vrp_search_tree.specs.Cutting.{NumberedWord}
 use Rattle.vrp_search_tree.specs.Low.{IsLow}
-use Rattle.vrp_search.specs.declared.depth_first.Ended.{Ended}
-use Rattle.vrp_search.specs.Search.{EndsSearch, NoneBeforeUnder}
+use Rattle.vrp_search_tree.specs.declared.piece_search.depth_first.Ended.{Ended}
+use Rattle.vrp_search_tree.specs.Search.{EndsSearch, NoneBeforeUnder}
 use Rattle.vrp_answer.specs.declared.outcome.Finished.{Finished}
 use Rattle.vrp_answer.specs.declared.outcome.OpenPiece.{OpenPiece}
 use Rattle.vrp_answer.specs.declared.outcome.PieceOutcome.{PieceOutcome}

@@ -3,7 +3,7 @@ use Rattle.std.proofs.Common.{◌≡◌, ℕ, ◌+◌, ◌<◌, ◌≤◌, List,
 use Rattle.std.proofs.lemmas.List.Elements.{All-nil}
 use Rattle.vrp_partition.specs.Choice.{IsCheapest, NoneBelow}
 use Rattle.vrp_canonical.specs.Reaching.{IsPoolOf, IsRoute, Reaches}
-use Rattle.vrp_customers.specs.Fleet.{IsFleet}
+use Rattle.vrp_model.specs.Fleet.{IsFleet}
 use Rattle.vrp_canonical.proofs.Begun.{all_unserved, canonical_cheapest, in_pool, least_first}
 use Rattle.vrp_canonical.proofs.PlanChoices.{continues_reached}
 use Rattle.vrp_model.specs.Cheapest.{NoneCheaper}
@@ -12,7 +12,7 @@ use Rattle.vrp_model.specs.Problem.{IsProblem, Problem, customers}
 use Rattle.vrp_model.specs.Route.{IsLawful, PricedPlan, plan_cost}
 use Rattle.vrp_model.proofs.CanonicalPlans.{canonical_exists}
 use Rattle.vrp_partition.specs.declared.route.Route.{Route}
-use Rattle.vrp_customers.specs.CustomerSet.{set_of as stops_set}
+use Rattle.vrp_model.specs.CustomerSet.{set_of as stops_set}
 
 pub cheapest_yes : (pool routes : List Route) (unserved trucks incumbent found most : ℕ) → IsCheapest pool unserved trucks 0 incumbent found routes → incumbent ≤ most + 1 → found < incumbent
     → Reaches pool unserved trucks most

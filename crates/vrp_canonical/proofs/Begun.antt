@@ -11,7 +11,7 @@ use Rattle.std.proofs.lemmas.List.Sorted.{All-permutation, IsPermutation-remove,
 use Rattle.std.proofs.lemmas.List.Sums.{sum_by-append, sum_by-cons}
 use Rattle.std.proofs.lemmas.Nat.Bits.{bit_at-lt, bit_at_and, bit_at_xor, same_from_bits}
 use Rattle.vrp_canonical.specs.Reaching.{AreUnserved, Continues, IsPoolOf, IsRoute, IsTask, Reaches, plan_at, routes_at, seen}
-use Rattle.vrp_customers.specs.Fleet.{IsFleet}
+use Rattle.vrp_model.specs.Fleet.{IsFleet}
 use Rattle.vrp_canonical.specs.Passing.{IsAfter, IsBegun}
 use Rattle.vrp_canonical.specs.declared.residual.Residual.{Residual}
 use Rattle.vrp_canonical.proofs.Counted.{served_visited, visited_served}
@@ -23,7 +23,7 @@ use Rattle.vrp_model.specs.Route.{IsLawful, PricedPlan, load_of, plan_cost, rout
 use Rattle.vrp_model.proofs.CanonicalPlans.{canonical_exists}
 use Rattle.vrp_partition.specs.Choice.{visits}
 use Rattle.vrp_partition.specs.declared.route.Route.{Route}
-use Rattle.vrp_customers.specs.CustomerSet.{set_of}
+use Rattle.vrp_model.specs.CustomerSet.{set_of}
 
 -- ---- what the canonical plan costs
 

@@ -5,7 +5,7 @@ use Rattle.vrp_canonical.specs.declared.canonical.RoutesOutcome.{RoutesOutcome}
 use Rattle.vrp_canonical.specs.declared.canonical.RoutesOutcome.TheVariants.{Canonical, Unfinished}
 use Rattle.vrp_canonical.specs.Ordering.{AreOrdered, route_of, stops_of}
 use Rattle.vrp_canonical.specs.Reaching.{IsTask, plan_at}
-use Rattle.vrp_customers.specs.Fleet.{IsFleet}
+use Rattle.vrp_model.specs.Fleet.{IsFleet}
 use Rattle.vrp_canonical.specs.declared.ordered.ListedRoute.{ListedRoute}
 use Rattle.vrp_canonical.specs.declared.residual.Residual.{Residual}
 use Rattle.vrp_canonical.proofs.Answered.{bounded, cheapest_canonical}
@@ -17,7 +17,7 @@ use Rattle.vrp_model.specs.Word.{word_of}
 use Rattle.vrp_model.proofs.CanonicalPlans.{same_routes}
 use Rattle.vrp_partition.specs.Choice.{IsCheapest, NoneBelow}
 use Rattle.vrp_partition.specs.declared.route.Route.{Route}
-use Rattle.vrp_customers.specs.CustomerSet.{set_of}
+use Rattle.vrp_model.specs.CustomerSet.{set_of}
 
 -- a fact of what is there
 pub told : {X : Type 0} (o : Option X) (x : X) (P : X → Type 0) → o ≡ Some x → IfSome o P → P x

@@ -16,8 +16,8 @@ use Rattle.vrp_canonical.proofs.Begun.{all_unserved, canonical_cheapest, set_wit
 use Rattle.vrp_canonical.proofs.Counted.{bits_are, here_once, served_visited}
 use Rattle.vrp_canonical.proofs.OrderedPools.{listed_route, seen_all}
 use Rattle.vrp_canonical.proofs.PlanChoices.{are_distinct, mapped_known, plan_choice, routes_known, seen_cost}
-use Rattle.vrp_customers.specs.CustomerSet.{set_of}
-use Rattle.vrp_customers.specs.Fleet.{IsFleet}
+use Rattle.vrp_model.specs.CustomerSet.{set_of}
+use Rattle.vrp_model.specs.Fleet.{IsFleet}
 use Rattle.vrp_model.specs.Cheapest.{NoneCheaper}
 use Rattle.vrp_model.specs.Order.{IsCanonical}
 use Rattle.vrp_model.specs.Problem.{IsProblem, Problem, customers}

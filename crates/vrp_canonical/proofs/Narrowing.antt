@@ -23,7 +23,7 @@ use Rattle.vrp_model.proofs.CustomerPlaces.{customer_is_some}
 use Rattle.vrp_partition.specs.Choice.{visits}
 use Rattle.vrp_partition.specs.Choice.{set_of as set_in}
 use Rattle.vrp_partition.specs.declared.route.Route.{Route}
-use Rattle.vrp_customers.specs.CustomerSet.{set_of}
+use Rattle.vrp_model.specs.CustomerSet.{set_of}
 
 -- one of the parts has a customer who is visited
 pub record Visitor (parts : List Route) (k : ℕ) : Type 0 where

@@ -16,7 +16,7 @@ use Rattle.vrp_model.proofs.CustomerPlaces.{customer_is_some}
 use Rattle.vrp_model.proofs.DistinctLists.{customers_distinct}
 use Rattle.vrp_model.proofs.Ordered.{earlier_behind, earlier_total}
 use Rattle.vrp_model.proofs.Words.{word_of-append}
-use Rattle.vrp_customers.specs.CustomerSet.{set_of}
+use Rattle.vrp_model.specs.CustomerSet.{set_of}
 
 -- of two routes with a 0 behind them the earlier is earlier, whatever follows, also where it is the beginning of the other
 closed_earlier : (r next : List ℕ) (more rest : List ℕ) → All (λ k. 0 < k) next → IsEarlier r next → IsEarlier ((r ++ 0 ∷ []) ++ more) ((next ++ 0 ∷ []) ++ rest)

@@ -9,7 +9,7 @@ use Rattle.std.proofs.lemmas.List.Sorted.{All-permutation, Contains-permutation,
 use Rattle.vrp_canonical.specs.Ordering.{AreMarked, StandsIn, chosen_of, route_of, stops_in, stops_of}
 use Rattle.vrp_canonical.specs.Passing.{route_in}
 use Rattle.vrp_canonical.specs.Reaching.{IsPoolOf, IsRoute, seen}
-use Rattle.vrp_customers.specs.Fleet.{IsFleet}
+use Rattle.vrp_model.specs.Fleet.{IsFleet}
 use Rattle.vrp_canonical.specs.declared.ordered.ListedRoute.{ListedRoute}
 use Rattle.vrp_canonical.proofs.Begun.{all_unserved, in_pool, is_seen}
 use Rattle.vrp_canonical.proofs.PlanChoices.{mapped_known, plan_choice, routes_known, seen_cost, seen_known}
@@ -17,7 +17,7 @@ use Rattle.vrp_model.specs.Problem.{Problem, customers}
 use Rattle.vrp_partition.specs.Choice.{cost_of}
 use Rattle.vrp_partition.specs.Pricing.{MarksWithin}
 use Rattle.vrp_partition.specs.declared.route.Route.{Route}
-use Rattle.vrp_customers.specs.CustomerSet.{set_of}
+use Rattle.vrp_model.specs.CustomerSet.{set_of}
 use Rattle.vrp_routes.specs.Pool.{IsListed, IsPool, RouteOf}
 use Rattle.vrp_routes.specs.Useful.{IsUseful}
 

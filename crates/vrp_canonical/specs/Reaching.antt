@@ -5,13 +5,13 @@ use Rattle.std.specs.List.{All, AllPairs, Contains}
 use Rattle.vrp_model.specs.Order.{IsEarlier, IsCanonical}
 use Rattle.vrp_model.specs.Problem.{Problem, customers}
 use Rattle.vrp_model.specs.Route.{IsLawful, PricedPlan, plan_cost, route_cost}
-use Rattle.vrp_customers.specs.Fleet.{IsFleet}
+use Rattle.vrp_model.specs.Fleet.{IsFleet}
 use Rattle.vrp_partition.specs.Choice.{IsChoice}
 use Rattle.vrp_canonical.specs.declared.residual.Residual.{Residual}
 use Rattle.vrp_partition.specs.Choice.{cost_of, set_of, visits}
 use Rattle.vrp_partition.specs.declared.route.Route.{Route}
 use Rattle.vrp_routes.specs.Label.{IsBeginning}
-use Rattle.vrp_customers.specs.CustomerSet.{set_of as stops_set}
+use Rattle.vrp_model.specs.CustomerSet.{set_of as stops_set}
 use Rattle.vrp_routes.specs.Useful.{IsUseful}
 
 -- customers, none of them twice, whom one truck can carry

@@ -9,8 +9,7 @@ use crate::searches::search_within;
 use std::alloc::{AllocError, Global};
 use std::sync::atomic::{AtomicUsize, Ordering};
 use std::thread::{Threads, for_each_mut};
-use vrp_customers::Fleet;
-use vrp_model::{Crew, Watch};
+use vrp_model::{Crew, Fleet, Watch};
 use vrp_partition::{Found, Guide, Route};
 
 /// The reply to a question: its answer, if it is known, and the part of the budget that was spent.

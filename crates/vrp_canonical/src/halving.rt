@@ -6,7 +6,7 @@ ghost use Rattle.vrp_canonical.specs.Asking.{Answers, IsRight};
 ghost use Rattle.vrp_canonical.specs.Passing.{AllHave, IsBegun, IsNarrowed};
 ghost use Rattle.vrp_canonical.specs.Reaching.{IsTask};
 ghost use Rattle.vrp_canonical.specs.declared.residual.Residual.{Residual};
-ghost use Rattle.vrp_customers.specs.declared.customer_set.TheConstants.{PLACES};
+ghost use Rattle.vrp_model.specs.declared.customers.customer_set.TheConstants.{PLACES};
 ghost use Rattle.vrp_model.specs.Problem.{Problem};
 
 use crate::part::part_of;

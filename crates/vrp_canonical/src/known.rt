@@ -5,7 +5,7 @@ ghost use Rattle.vrp_canonical.specs.Reaching.{Reaches};
 
 use crate::residual::Residual;
 use std::alloc::{AllocError, Global};
-use vrp_customers::CustomerSet;
+use vrp_model::CustomerSet;
 use vrp_partition::Route;
 
 /// Whether routes are a choice of the part for the residual problem. `false` claims nothing.

@@ -3,12 +3,12 @@ ghost use Rattle.std.specs.Prelude.{◌≡◌, ◌≢◌, ◌+◌, ◌≤◌, �
 ghost use Rattle.std.specs.List.{All, Contains};
 ghost use Rattle.vrp_partition.specs.Choice.{IsCheapest};
 ghost use Rattle.vrp_canonical.specs.Reaching.{AreUnserved, Continues, IsPoolOf, IsRoute, Reaches};
-ghost use Rattle.vrp_customers.specs.Fleet.{IsFleet};
+ghost use Rattle.vrp_model.specs.Fleet.{IsFleet};
 ghost use Rattle.vrp_model.specs.Order.{IsEarlier, IsCanonical};
 ghost use Rattle.vrp_model.specs.Problem.{IsProblem, Problem, customers};
 ghost use Rattle.vrp_model.specs.Route.{IsLawful, PricedPlan, plan_cost};
 ghost use Rattle.vrp_partition.specs.declared.route.Route.{Route};
-ghost use Rattle.vrp_customers.specs.CustomerSet.{set_of};
+ghost use Rattle.vrp_model.specs.CustomerSet.{set_of};
 
 /// A choice of the pool for the unserved customers, together with the routes chosen before, makes a feasible plan of at most this cost,
 /// if the fleet has the trucks for both.

@@ -1,8 +1,8 @@
 //! The routes that may be in a choice within the cost limit, in the order of their stops.
 ghost use Rattle.std.specs.Prelude.{◌≡◌, ◌≤◌, ℕ, IfOk, IfSome, map};
 ghost use Rattle.vrp_canonical.specs.Ordering.{AreOrdered, chosen_of};
-ghost use Rattle.vrp_customers.specs.CustomerSet.{set_of};
-ghost use Rattle.vrp_customers.specs.Fleet.{IsFleet};
+ghost use Rattle.vrp_model.specs.CustomerSet.{set_of};
+ghost use Rattle.vrp_model.specs.Fleet.{IsFleet};
 ghost use Rattle.vrp_model.specs.Problem.{Problem, customers};
 ghost use Rattle.vrp_partition.specs.Pricing.{MarksWithin};
 ghost use Rattle.vrp_routes.specs.Pool.{IsPool};
@@ -10,8 +10,7 @@ ghost use Rattle.vrp_routes.specs.Pool.{IsPool};
 use crate::ordered::{ListedRoute, in_order, kept_routes, marked_routes, routes_of};
 use crate::residual::{Residual, Sought};
 use std::alloc::Global;
-use vrp_customers::{Fleet, FleetView};
-use vrp_model::{NoMemory, Watch};
+use vrp_model::{Fleet, FleetView, NoMemory, Watch};
 use vrp_partition::{Guide, Query, Route, all_fit, routes_within};
 use vrp_routes::RoutePool;
 

@@ -9,8 +9,7 @@ ghost use Rattle.vrp_model.specs.Order.{IsEarlier};
 ghost use Rattle.vrp_model.specs.Word.{word_of};
 
 use std::alloc::{AllocError, Global};
-use vrp_customers::CustomerSet;
-use vrp_model::NoMemory;
+use vrp_model::{CustomerSet, NoMemory};
 use vrp_partition::Route;
 use vrp_routes::RoutePool;
 

@@ -1,7 +1,7 @@
 //! Questions about parts of the pool, and their answers.
 ghost use Rattle.std.specs.Prelude.{◌≡◌, ◌<◌, IfSome};
 ghost use Rattle.std.specs.List.{Contains};
-ghost use Rattle.vrp_customers.specs.declared.customer_set.TheConstants.{PLACES};
+ghost use Rattle.vrp_model.specs.declared.customers.customer_set.TheConstants.{PLACES};
 
 use crate::residual::Residual;
 use vrp_partition::Route;

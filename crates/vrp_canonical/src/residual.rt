@@ -2,7 +2,7 @@
 ghost use Rattle.std.specs.Prelude.{◌≡◌, ◌≤◌, IfNone, IfSome, bit_and};
 ghost use Rattle.vrp_canonical.specs.Passing.{IsAfter};
 
-use vrp_customers::CustomerSet;
+use vrp_model::CustomerSet;
 use vrp_partition::Route;
 
 /// A residual problem: the unserved customers, the trucks that are left, and the cost limit of their routes.

@@ -2,9 +2,9 @@
 ghost use Rattle.std.specs.Prelude.{◌≡◌, ◌<◌, ◌≤◌, length};
 ghost use Rattle.std.specs.Int.{bit_at};
 ghost use Rattle.vrp_canonical.specs.Passing.{AllHave, IsInside, route_in};
-ghost use Rattle.vrp_customers.specs.declared.customer_set.TheConstants.{PLACES};
+ghost use Rattle.vrp_model.specs.declared.customers.customer_set.TheConstants.{PLACES};
 
-use vrp_customers::CustomerSet;
+use vrp_model::CustomerSet;
 use vrp_partition::Route;
 
 /// The routes from a place to an end. All of them that have only unserved customers share this customer.

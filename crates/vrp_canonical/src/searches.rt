@@ -1,7 +1,7 @@
 //! Answers by searches over parts of the pool.
 ghost use Rattle.std.specs.Prelude.{◌≡◌, ◌+◌, ◌^◌, ◌<◌, ◌≤◌, ◌↔◌, IfNone, IfOk, IfSome, IsTrue, OnOk};
 ghost use Rattle.vrp_canonical.specs.Reaching.{Reaches};
-ghost use Rattle.vrp_customers.specs.declared.customer_set.TheConstants.{PLACES};
+ghost use Rattle.vrp_model.specs.declared.customers.customer_set.TheConstants.{PLACES};
 ghost use Rattle.vrp_partition.specs.Branching.{IsFound};
 ghost use Rattle.vrp_partition.specs.Prices.{AllFit};
 
@@ -9,8 +9,7 @@ use crate::known::{is_choice, routes_inside};
 use crate::residual::{Residual, Sought};
 use std::alloc::{AllocError, Global};
 use std::thread::Threads;
-use vrp_customers::{Fleet, FleetView};
-use vrp_model::{Crew, Watch};
+use vrp_model::{Crew, Fleet, FleetView, Watch};
 use vrp_partition::{Found, Guide, Route, Task, all_fit, cheapest_choice};
 
 /// Searches within a budget, each by a fork of one guide. The choice found last answers some questions by itself.

@@ -1,6 +1,6 @@
 //! From an instance and a limit on the cost of a plan to a pool of its useful routes, or to prices that list them for lower limits.
 ghost use Rattle.std.specs.Prelude.{◌≡◌, ◌≤◌, IfOk, IfSome, None};
-ghost use Rattle.vrp_customers.specs.declared.customer_set.TheConstants.{PLACES};
+ghost use Rattle.vrp_model.specs.declared.customers.customer_set.TheConstants.{PLACES};
 ghost use Rattle.vrp_model.specs.Problem.{Problem, place_count};
 ghost use Rattle.vrp_model.specs.declared.limits.TheConstants.{NO_COST};
 ghost use Rattle.vrp_priced_routes.specs.Priced.{BoundsPlans, BoundsPlansIn};
@@ -15,9 +15,8 @@ use crate::pools::Pools;
 use crate::progress::Progress;
 use crate::rounds::{AfterRounds, RoundLimits, run_rounds};
 use std::thread::Threads;
-use vrp_customers::CustomerSet;
 use vrp_duals::MAX_SCALE;
-use vrp_model::{Crew, Instance, NoMemory, Watch};
+use vrp_model::{Crew, CustomerSet, Instance, NoMemory, Watch};
 use vrp_priced_routes::{AliveArcs, nearest_sets};
 use vrp_routes::RoutePool;
 

@@ -1,6 +1,6 @@
 //! What guides the passes: rounds of pricing and of separation, to dual prices that are worth a pass. Nothing rests on it.
 ghost use Rattle.std.specs.Prelude.{◌≡◌, ◌≤◌, IfOk, IfSome, length};
-ghost use Rattle.vrp_customers.specs.declared.customer_set.TheConstants.{PLACES};
+ghost use Rattle.vrp_model.specs.declared.customers.customer_set.TheConstants.{PLACES};
 ghost use Rattle.vrp_duals.specs.Duals.{AreDualsOf};
 ghost use Rattle.vrp_model.specs.Problem.{place_count};
 
@@ -10,12 +10,13 @@ use crate::program_rows::ProgramRow;
 use crate::progress::PassLimits;
 use std::alloc::Global;
 use std::thread::Threads;
-use vrp_customers::{CustomerSet, Fleet, all_customers};
+use vrp_columns_and_cuts::{
+    CutSearch, Effort, ONE, Priced, PricedRoutes, RoutePricer, RowSearch, violated_entries,
+    violated_rows,
+};
 use vrp_duals::{Duals, EntryRow};
-use vrp_model::{Crew, Instance, NoMemory, Watch};
+use vrp_model::{Crew, CustomerSet, Fleet, Instance, NoMemory, Watch, all_customers};
 use vrp_priced_routes::unit_demands;
-use vrp_pricing::{Effort, Priced, PricedRoutes, RoutePricer};
-use vrp_separation::{CutSearch, ONE, RowSearch, violated_entries, violated_rows};
 
 /// What may be spent on dual prices, and on the list of routes.
 #[derive(Clone, Copy, Debug)]

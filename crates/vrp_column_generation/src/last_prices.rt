@@ -10,8 +10,7 @@ use crate::leaf_prices::LeafPrices;
 use crate::pools::{LeafPools, Pools};
 use std::marker::Model;
 use std::thread::Threads;
-use vrp_customers::CustomerSet;
-use vrp_model::{Crew, NoMemory, Watch};
+use vrp_model::{Crew, CustomerSet, NoMemory, Watch};
 use vrp_routes::{Leaves, RoutePool};
 
 /// Dual prices of an instance, and the arcs that plans within a limit use: with a lower limit, the same prices leave fewer routes. Where

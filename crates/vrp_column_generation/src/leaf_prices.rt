@@ -6,9 +6,8 @@ ghost use Rattle.vrp_routes.specs.Pool.{IsPoolIn};
 
 use crate::guide::Settings;
 use std::thread::Threads;
-use vrp_customers::CustomerSet;
 use vrp_duals::Duals;
-use vrp_model::{Crew, NoMemory, Watch};
+use vrp_model::{Crew, CustomerSet, NoMemory, Watch};
 use vrp_priced_routes::{AliveArcs, Passed, PricedLabels, run_pass};
 use vrp_routes::{Listed, PlanRange, RoutePool};
 

@@ -3,7 +3,7 @@
 ghost use Rattle.std.specs.Prelude.{◌≡◌, ◌⊎◌, ◌≤◌, ℕ, List, IfOk, IfSome};
 ghost use Rattle.vrp_column_generation.specs.Pools.{ArePools};
 ghost use Rattle.vrp_column_generation.specs.Progress.{AreFor};
-ghost use Rattle.vrp_customers.specs.declared.customer_set.TheConstants.{PLACES};
+ghost use Rattle.vrp_model.specs.declared.customers.customer_set.TheConstants.{PLACES};
 ghost use Rattle.vrp_model.specs.Problem.{Problem, place_count};
 ghost use Rattle.vrp_priced_routes.specs.Priced.{BoundsPlansIn};
 ghost use Rattle.vrp_routes.specs.Pool.{IsPoolIn};
@@ -17,8 +17,7 @@ use crate::program_rows::ProgramRow;
 use crate::progress::Progress;
 use crate::rounds::{AfterRounds, LEAF_ROUNDS, run_rounds};
 use std::thread::Threads;
-use vrp_customers::CustomerSet;
-use vrp_model::{Crew, Instance, NoMemory, Watch};
+use vrp_model::{Crew, CustomerSet, Instance, NoMemory, Watch};
 use vrp_routes::{Leaves, PlanRange, RoutePool};
 
 /// What column generation leaves that branches: plans with at most so many routes, and plans with more. If it doesn't come to prices for both

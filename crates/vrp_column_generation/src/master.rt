@@ -1,17 +1,16 @@
 //! The restricted master problem: the linear program over the routes found so far.
 ghost use Rattle.std.specs.Prelude.{◌≡◌, ◌≤◌, ◌<◌, IfOk, IfSome};
-ghost use Rattle.vrp_customers.specs.declared.customer_set.TheConstants.{PLACES};
+ghost use Rattle.vrp_model.specs.declared.customers.customer_set.TheConstants.{PLACES};
 ghost use Rattle.vrp_duals.specs.Duals.{AreDualsOf};
 ghost use Rattle.vrp_model.specs.Problem.{place_count};
 
 use crate::columns::Columns;
 use crate::program_rows::ProgramRow;
 use std::alloc::Global;
-use vrp_customers::{CustomerSet, PLACES};
+use vrp_columns_and_cuts::UsedRoute;
 use vrp_duals::{Duals, EntryRow, MAX_SUBSET_ROWS, SubsetRow};
 use vrp_linear_program::{LinearProgram, Settings};
-use vrp_model::{Instance, NoMemory};
-use vrp_separation::UsedRoute;
+use vrp_model::{CustomerSet, Instance, NoMemory, PLACES};
 
 // A column is added if its reduced cost is below 0 by more than this part of a unit of cost: 2 ^ -12. The program changes costs by less than
 // half of that, against ties, so a column that it has already isn't added again.

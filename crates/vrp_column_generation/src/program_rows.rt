@@ -1,7 +1,7 @@
 //! The rows of the linear program beside those of the customers.
-use vrp_customers::{CustomerSet, PLACES};
 use vrp_duals::{EntryRow, SubsetRow};
 use vrp_linear_program::Sense;
+use vrp_model::{CustomerSet, PLACES};
 
 /// A row: routes enter a set at least or at most so often, or have at most so many pairs of a row's customers. Its own price isn't used.
 #[derive(Clone, Copy, Debug)]

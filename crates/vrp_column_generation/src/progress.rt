@@ -11,9 +11,8 @@ use crate::guide::Prices;
 use crate::leaf_prices::{LeafPrices, pool_of};
 use std::alloc::Global;
 use std::thread::Threads;
-use vrp_customers::CustomerSet;
 use vrp_duals::Duals;
-use vrp_model::{Crew, NoMemory, Watch};
+use vrp_model::{Crew, CustomerSet, NoMemory, Watch};
 use vrp_priced_routes::{AliveArcs, Pass, Passed, run_pass};
 use vrp_routes::{PlanRange, RoutePool};
 

@@ -8,8 +8,7 @@ use crate::guide::{Guide, Prices};
 use crate::pace::{Decision, Pace};
 use crate::progress::{AfterPass, Progress};
 use std::thread::Threads;
-use vrp_customers::CustomerSet;
-use vrp_model::{Crew, Instance, News, NoMemory, Watch};
+use vrp_model::{Crew, CustomerSet, Instance, News, NoMemory, Watch};
 use vrp_routes::RoutePool;
 
 /// What comes of rounds: the progress, the pool of useful routes if their list is short, and how to go on if it isn't.

@@ -28,9 +28,9 @@ use Rattle.vrp_command_streams.specs.Input.{IsInput}
 use Rattle.vrp_command_streams.specs.declared.fault.RunError.TheVariants as fault
 use Rattle.vrp_command.specs.Strict.{cost_code}
 use Rattle.vrp_model.specs.Route.{PricedPlan}
-use Rattle.vrp_plan_read.specs.Solution.{StatesOtherCost}
-use Rattle.vrp_plan_read.specs.declared.solution.Solution.{Solution}
-use Rattle.vrp_text_lexer.specs.declared.limits.TheConstants.{MAX_BYTES}
+use Rattle.vrp_plan_text.specs.Solution.{StatesOtherCost}
+use Rattle.vrp_plan_text.specs.declared.reading.solution.Solution.{Solution}
+use Rattle.vrp_text.specs.declared.lexer.limits.TheConstants.{MAX_BYTES}
 
 -- ---- exit statuses
 

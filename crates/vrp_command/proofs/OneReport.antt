@@ -15,8 +15,8 @@ use Rattle.vrp_command.specs.Program.{AnswersRequest, start_cost}
 use Rattle.vrp_command.specs.Run.{AnswersBytes, limited}
 use Rattle.vrp_command.specs.Same.{TellsSame, IsOfFindingAlone}
 use Rattle.vrp_command.specs.Text.{IsTextIn, context_of}
-use Rattle.vrp_plan_write.specs.Json.{ContextOf}
-use Rattle.vrp_plan_write.specs.Name.{name_of}
+use Rattle.vrp_plan_text.specs.Json.{ContextOf}
+use Rattle.vrp_plan_text.specs.Name.{name_of}
 use Rattle.vrp_command_request.specs.declared.options.Format.{Format}
 use Rattle.vrp_command_request.specs.declared.options.Format.TheVariants as format
 use Rattle.vrp_command_request.specs.declared.options.Options.{Options}

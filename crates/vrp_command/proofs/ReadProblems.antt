@@ -17,7 +17,7 @@ use Rattle.vrp_command_request.specs.declared.options.Format.{Format}
 use Rattle.vrp_command_request.specs.declared.options.Options.{Options}
 use Rattle.vrp_command_request.specs.declared.options.Request.{Request}
 use Rattle.vrp_command_streams.specs.Report.{report_of}
-use Rattle.vrp_plan_write.specs.Json.{ContextOf}
+use Rattle.vrp_plan_text.specs.Json.{ContextOf}
 
 -- the form of a report is the one that is asked for
 pub is_report_form : (options : Options) (request : Request) (asked : Form) (context : ContextOf) → IsReport options request → asked ≡ form.Report → IsFormIn request.format context asked

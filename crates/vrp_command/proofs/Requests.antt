@@ -30,8 +30,8 @@ use Rattle.vrp_command.specs.declared.form.Form.TheVariants as form
 use Rattle.vrp_command.specs.declared.start.StartError.{StartError}
 use Rattle.vrp_command.specs.declared.start.StartError.TheVariants as start_fault
 use Rattle.vrp_command.specs.declared.start.StartFile.{StartFile}
-use Rattle.vrp_plan_write.specs.Json.{ContextOf, IsJsonOf}
-use Rattle.vrp_plan_write.specs.Name.{name_of}
+use Rattle.vrp_plan_text.specs.Json.{ContextOf, IsJsonOf}
+use Rattle.vrp_plan_text.specs.Name.{name_of}
 use Rattle.vrp_model.specs.Cheapest.{NoneCheaper, cost_of}
 use Rattle.vrp_model.specs.Problem.{Problem}
 use Rattle.vrp_model.specs.Route.{IsPlanOf, PricedPlan}
@@ -39,7 +39,7 @@ use Rattle.vrp_command_request.specs.declared.options.Format.{Format}
 use Rattle.vrp_command_request.specs.declared.options.Format.TheVariants as format
 use Rattle.vrp_command_request.specs.declared.options.Options.{Options}
 use Rattle.vrp_command_request.specs.declared.options.Request.{Request}
-use Rattle.vrp_plan_read.specs.declared.solution.Solution.{Solution}
+use Rattle.vrp_plan_text.specs.declared.reading.solution.Solution.{Solution}
 use Rattle.vrp_command_streams.specs.declared.fault.RunError.{RunError}
 use Rattle.vrp_command_streams.specs.declared.fault.RunError.TheVariants as fault
 use Rattle.vrp_text.specs.declared.error.TextError.{TextError}

@@ -8,10 +8,10 @@ use Rattle.vrp_command.specs.declared.start.StartError.TheVariants as start_faul
 use Rattle.vrp_command.specs.declared.start.StartFile.{StartFile}
 use Rattle.vrp_command.specs.declared.start.StartFile.TheVariants.{Opened}
 use Rattle.vrp_model.specs.Problem.{Problem}
-use Rattle.vrp_plan_read.specs.Solution.{IsRefusedFor, StatesOtherCost}
-use Rattle.vrp_plan_read.specs.declared.solution.Solution.{Solution}
-use Rattle.vrp_plan_read.specs.declared.error.SolutionError.{SolutionError}
-use Rattle.vrp_plan_read.specs.declared.error.SolutionError.TheVariants as solution
+use Rattle.vrp_plan_text.specs.Solution.{IsRefusedFor, StatesOtherCost}
+use Rattle.vrp_plan_text.specs.declared.reading.solution.Solution.{Solution}
+use Rattle.vrp_plan_text.specs.declared.reading.error.SolutionError.{SolutionError}
+use Rattle.vrp_plan_text.specs.declared.reading.error.SolutionError.TheVariants as solution
 
 -- a file that was opened and read gives the plan, and states its cost
 pub begins_stated : {S : Type 0} (p : Problem) (unread : S → Option (List ℕ)) (start : Option (StartFile S)) (file : S) (solution : Solution) → start ≡ Some (Opened file) → GivesFilePlan p (unread file) solution → BeginsStated p unread start (Some solution)

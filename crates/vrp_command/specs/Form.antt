@@ -4,7 +4,7 @@ use Rattle.std.specs.Prelude.{◌≡◌, ℕ, Option, List, ⊤}
 use Rattle.vrp_answer.specs.Finding.{FindingOf}
 use Rattle.vrp_command.specs.declared.form.Form.{Form}
 use Rattle.vrp_command.specs.declared.form.Form.TheVariants as form
-use Rattle.vrp_plan_write.specs.Json.{ContextOf, IsJsonOf, context_by}
+use Rattle.vrp_plan_text.specs.Json.{ContextOf, IsJsonOf, context_by}
 use Rattle.vrp_model.specs.Problem.{Problem}
 use Rattle.vrp_command_request.specs.declared.options.Format.{Format}
 use Rattle.vrp_command_request.specs.declared.options.Format.TheVariants as format

@@ -8,7 +8,7 @@ use Rattle.vrp_answer.specs.declared.answers.Answer.{Answer}
 use Rattle.vrp_answer.specs.declared.status.Status.{Status}
 use Rattle.vrp_command.specs.Answer.{IsAnswerTo}
 use Rattle.vrp_command.specs.Text.{IsTextIn}
-use Rattle.vrp_plan_write.specs.Json.{ContextOf}
+use Rattle.vrp_plan_text.specs.Json.{ContextOf}
 use Rattle.vrp_model.specs.Cheapest.{NoneCheaper, cost_of}
 use Rattle.vrp_model.specs.Problem.{Problem}
 use Rattle.vrp_model.specs.Route.{PricedPlan}

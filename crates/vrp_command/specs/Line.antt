@@ -10,7 +10,7 @@ use Rattle.vrp_command_request.specs.declared.options.Request.{Request}
 use Rattle.vrp_command_streams.specs.Fault.{exit_code}
 use Rattle.vrp_command_streams.specs.Input.{IsInput}
 use Rattle.vrp_model.specs.Route.{PricedPlan}
-use Rattle.vrp_plan_read.specs.Solution.{StatesOtherCost}
+use Rattle.vrp_plan_text.specs.Solution.{StatesOtherCost}
 
 -- the start plan's file states another cost than that of the plan that is told
 abbrev pub IsOtherwiseStated : Option (List ℕ) → FindingOf → Type 0

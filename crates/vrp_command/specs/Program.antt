@@ -14,13 +14,13 @@ use Rattle.vrp_command.specs.declared.start.StartError.{StartError}
 use Rattle.vrp_command.specs.declared.start.StartError.TheVariants as start_fault
 use Rattle.vrp_command.specs.declared.start.StartFile.{StartFile}
 use Rattle.vrp_command.specs.declared.start.StartFile.TheVariants.{Opened, Unopened}
-use Rattle.vrp_plan_write.specs.Name.{name_of}
-use Rattle.vrp_text_lexer.specs.declared.limits.TheConstants.{MAX_BYTES}
+use Rattle.vrp_plan_text.specs.Name.{name_of}
+use Rattle.vrp_text.specs.declared.lexer.limits.TheConstants.{MAX_BYTES}
 use Rattle.vrp_model.specs.Problem.{Problem}
 use Rattle.vrp_model.specs.Route.{PricedPlan}
 use Rattle.vrp_command_request.specs.declared.options.Request.{Request}
-use Rattle.vrp_plan_read.specs.Solution.{GivesPlan, IsRefusedFor, stated_cost}
-use Rattle.vrp_plan_read.specs.declared.error.SolutionError.TheVariants as solution
+use Rattle.vrp_plan_text.specs.Solution.{GivesPlan, IsRefusedFor, stated_cost}
+use Rattle.vrp_plan_text.specs.declared.reading.error.SolutionError.TheVariants as solution
 use Rattle.vrp_command_streams.specs.Fault.{exit_code}
 use Rattle.vrp_command_streams.specs.Input.{IsInput}
 use Rattle.vrp_command_streams.specs.Output.{AppendsPart}

@@ -1,8 +1,8 @@
 -- The text of a finding, in the form of a request.
 use Rattle.std.specs.Prelude.{◌≡◌, ℕ, if◌then◌else◌, Option, None, Some, List, ⊤}
 use Rattle.vrp_answer.specs.Finding.{FindingOf}
-use Rattle.vrp_plan_write.specs.Json.{ContextOf, IsJsonOf}
-use Rattle.vrp_plan_write.specs.declared.json.Settings.{Settings}
+use Rattle.vrp_plan_text.specs.Json.{ContextOf, IsJsonOf}
+use Rattle.vrp_plan_text.specs.declared.writing.json.Settings.{Settings}
 use Rattle.vrp_model.specs.Problem.{Problem}
 use Rattle.vrp_command_request.specs.declared.grammar.TheConstants.{VERSION}
 use Rattle.vrp_command_request.specs.declared.options.Format.{Format}

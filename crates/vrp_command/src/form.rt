@@ -6,7 +6,7 @@ ghost use Rattle.vrp_answer.specs.Finding.{told_by};
 ghost use Rattle.vrp_command.specs.Form.{IsFormIn, IsTextAs, WritesPart, WritesText};
 ghost use Rattle.vrp_command.specs.Inner.Points.{HasPoints};
 ghost use Rattle.vrp_command.specs.Text.{context_of, settings_of};
-ghost use Rattle.vrp_plan_write.specs.Json.{context_by};
+ghost use Rattle.vrp_plan_text.specs.Json.{context_by};
 ghost use Rattle.vrp_model.specs.Route.{IsPlanOf};
 ghost use Rattle.vrp_command_request.specs.declared.options.Request.{Request};
 
@@ -17,7 +17,7 @@ use vrp_answer::Finding;
 use vrp_command_request::{Format, Request, VERSION};
 use vrp_command_streams::{RunError, Status, report_text, solution_text, write_report};
 use vrp_model::{Instance, NoMemory};
-use vrp_plan_write::{Context, Points, Settings, json_text, picture_text};
+use vrp_plan_text::{Context, Points, Settings, json_text, picture_text};
 
 /// A form, and the data that it needs.
 #[derive(Clone, Copy)]

@@ -6,7 +6,7 @@ ghost use Rattle.vrp_command_request.specs.Options.{AreInRange};
 ghost use Rattle.vrp_command.specs.Inner.Named.{ReadsNamed};
 ghost use Rattle.vrp_command.specs.Inner.Points.{HasPoints};
 ghost use Rattle.vrp_command.specs.Run.{OnRefusedFile, RefusesInput, limited};
-ghost use Rattle.vrp_plan_write.specs.Name.{name_of};
+ghost use Rattle.vrp_plan_text.specs.Name.{name_of};
 ghost use Rattle.vrp_model.specs.declared.limits.TheConstants.{MAX_NODES};
 
 use std::alloc::{AllocError, Global};
@@ -14,7 +14,7 @@ use std::io::Read;
 use vrp_command_request::{Format, Options};
 use vrp_command_streams::{RunError, read_input};
 use vrp_model::{Instance, NoMemory};
-use vrp_plan_write::{Points, name_of};
+use vrp_plan_text::{Points, name_of};
 use vrp_text::MAX_BYTES;
 
 /// A problem that was read.

@@ -20,7 +20,7 @@ use std::sync::Wait;
 use std::thread::Threads;
 use vrp_command_request::{Format, Request};
 use vrp_command_streams::RunError;
-use vrp_plan_read::Solution;
+use vrp_plan_text::Solution;
 use vrp_solver::{Gate, Resources};
 use vrp_text::MAX_BYTES;
 

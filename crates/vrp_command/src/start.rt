@@ -10,7 +10,7 @@ use std::io::{Read, Write};
 use std::rt::Files;
 use vrp_command_streams::{RunError, read_input};
 use vrp_model::{Instance, Plan};
-use vrp_plan_read::{Solution, SolutionError};
+use vrp_plan_text::{Solution, SolutionError};
 use vrp_text::MAX_BYTES;
 
 /// The file of a start plan.

@@ -4,7 +4,7 @@ ghost use Rattle.vrp_command.specs.Strict.{cost_code};
 
 use std::io::Write;
 use vrp_command_streams::{Quoted, stated_cost};
-use vrp_plan_read::Solution;
+use vrp_plan_text::Solution;
 
 // The exit status for a wrong stated cost.
 const OTHER_COST: u8 = 6;

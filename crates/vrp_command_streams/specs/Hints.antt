@@ -5,8 +5,8 @@ use Rattle.vrp_command_streams.specs.declared.answer.AnswerHint.{AnswerHint}
 use Rattle.vrp_command_streams.specs.declared.answer.AnswerHint.TheVariants as answer
 use Rattle.vrp_command_streams.specs.declared.file.FileHint.{FileHint}
 use Rattle.vrp_command_streams.specs.declared.file.FileHint.TheVariants as file
-use Rattle.vrp_text_lexer.specs.Numeral.{number_of}
-use Rattle.vrp_text_lexer.specs.declared.fault.FileLineFault.TheVariants.{NotWhole}
+use Rattle.vrp_text.specs.Numeral.{number_of}
+use Rattle.vrp_text.specs.declared.lexer.fault.FileLineFault.TheVariants.{NotWhole}
 use Rattle.vrp_model.specs.Problem.{Problem, customers}
 use Rattle.vrp_model.specs.Route.{load_of}
 use Rattle.vrp_model.specs.declared.limits.TheConstants.{MAX_NODES}

@@ -1,7 +1,7 @@
 -- The bytes of a reader that are read.
 use Rattle.std.specs.Prelude.{ℕ, ◌+◌, ◌≤◌, ◌<◌, Option, List, length}
 use Rattle.std.specs.Io.KnownBytes.{Consumes, IsAtEnd}
-use Rattle.vrp_text_lexer.specs.declared.limits.TheConstants.{MAX_BYTES}
+use Rattle.vrp_text.specs.declared.lexer.limits.TheConstants.{MAX_BYTES}
 
 -- All bytes that a reader has left, or, if it has more than a file may have, one byte more than that. Old and new are the
 -- known bytes that it has left before and after.

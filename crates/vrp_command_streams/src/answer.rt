@@ -1,12 +1,12 @@
 //! Hints on an answer.
 ghost use Rattle.std.specs.Prelude.{◌≡◌, ◌≤◌, None, IfSome, length};
 ghost use Rattle.vrp_command_streams.specs.Hints.{few_trucks};
-ghost use Rattle.vrp_text_lexer.specs.declared.limits.TheConstants.{MAX_BYTES};
+ghost use Rattle.vrp_text.specs.declared.lexer.limits.TheConstants.{MAX_BYTES};
 
 use crate::line::lines_in;
 use std::fmt;
 use vrp_model::Instance;
-use vrp_text_lexer::{Key, MAX_BYTES, MAX_NODE, Tokens, number};
+use vrp_text::{Key, MAX_BYTES, MAX_NODE, Tokens, number};
 
 /// More about an answer, and what to do about it. Its text is one line, without a line end; the contract leaves it open.
 #[derive(Clone, Copy, Debug, PartialEq, Eq)]

@@ -4,7 +4,7 @@ ghost use Rattle.std.specs.Prelude.{None};
 use crate::quoted::Quoted;
 use std::fmt;
 use vrp_model::{MAX_CAPACITY, MAX_NODES};
-use vrp_text_lexer::Key;
+use vrp_text::Key;
 
 /// More about a refused file, and what to do about it. Its text is one line, without a line end; the contract leaves it open.
 #[derive(Clone, Copy, Debug, PartialEq, Eq)]

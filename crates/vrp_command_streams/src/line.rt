@@ -1,8 +1,8 @@
 //! The text of a line in a file, and the text behind a keyword.
 ghost use Rattle.std.specs.Prelude.{◌≤◌, length};
-ghost use Rattle.vrp_text_lexer.specs.declared.limits.TheConstants.{MAX_BYTES};
+ghost use Rattle.vrp_text.specs.declared.lexer.limits.TheConstants.{MAX_BYTES};
 
-use vrp_text_lexer::{Key, Keyword, Lines, Tokens, keyword_len};
+use vrp_text::{Key, Keyword, Lines, Tokens, keyword_len};
 
 /// The line of this number, counted from 1, or nothing if there is none.
 pub(crate) fn line_on(bytes: &[u8], number: u32) -> &[u8] {

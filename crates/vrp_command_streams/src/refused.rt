@@ -1,17 +1,16 @@
 //! Finds the hint on a refused file.
 ghost use Rattle.std.specs.Prelude.{◌≤◌, IfSome, length};
 ghost use Rattle.vrp_command_streams.specs.Hints.{IsSound};
-ghost use Rattle.vrp_text_lexer.specs.declared.limits.TheConstants.{MAX_BYTES};
+ghost use Rattle.vrp_text.specs.declared.lexer.limits.TheConstants.{MAX_BYTES};
 
 use crate::file::FileHint;
 use crate::keyword::{counts_trucks, other_problem};
 use crate::line::{line_on, section_of, stated_on, tokens_in, value_of};
 use crate::quoted::Quoted;
 use vrp_model::MAX_NODES;
-use vrp_text::TextError;
-use vrp_text_lexer::{
-    FileLineFault, Key, Keyword, MAX_BYTES, WeightFormat, dimension, faulty_token, number,
-    weight_format,
+use vrp_text::{
+    FileLineFault, Key, Keyword, MAX_BYTES, TextError, WeightFormat, dimension, faulty_token,
+    number, weight_format,
 };
 
 /// The hint on a file with this refusal, if there is one. The contract leaves open which one it is.

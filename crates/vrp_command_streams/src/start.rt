@@ -3,7 +3,7 @@ ghost use Rattle.std.specs.Prelude.{None};
 
 use crate::line::value_of;
 use std::fmt;
-use vrp_text_lexer::{Key, MAX_BYTES, MAX_NODE, Tokens, dimension, number};
+use vrp_text::{Key, MAX_BYTES, MAX_NODE, Tokens, dimension, number};
 
 /// More about a refused plan, and what to do about it. Its text is one line, without a line end; the contract leaves it open.
 #[derive(Clone, Copy, Debug, PartialEq, Eq)]

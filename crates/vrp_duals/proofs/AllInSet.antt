@@ -5,7 +5,7 @@ use Rattle.std.specs.List.{All}
 use Rattle.std.proofs.lemmas.Bool.{cases_eq}
 use Rattle.std.proofs.lemmas.List.Elements.{All-cons, All-head, All-nil, All-tail}
 use Rattle.std.proofs.lemmas.Nat.Bits.{bit_at-lt, bit_at-pow_other, bit_at-pow_same, bit_at-zero, bit_at_or}
-use Rattle.vrp_customers.specs.CustomerSet.{set_of}
+use Rattle.vrp_model.specs.CustomerSet.{set_of}
 
 -- the stops are in the set
 abbrev pub AreIn : ℕ → List ℕ → Type 0

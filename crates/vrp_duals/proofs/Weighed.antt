@@ -7,7 +7,7 @@ use Rattle.std.specs.List.{All}
 use Rattle.std.proofs.Math.Nat.{mul-le-mul_right, zero-mul, one-mul}
 use Rattle.std.proofs.lemmas.List.Elements.{All-head, All-tail}
 use Rattle.std.proofs.lemmas.Nat.Bits.{bit_at-lt, bit_at-suc, bit_at_and, bit_at_lowest, bit_at_or, bit_at_xor, same_from_bits}
-use Rattle.vrp_customers.specs.CustomerSet.{IsFirst}
+use Rattle.vrp_model.specs.CustomerSet.{IsFirst}
 use Rattle.vrp_duals.specs.Folding.{weigh}
 use Rattle.vrp_duals.specs.declared.limits.TheConstants.{MAX_SUBSET_ROWS}
 use Rattle.vrp_duals.proofs.FoldedRows.{and_half, and_lowest}

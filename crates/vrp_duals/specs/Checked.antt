@@ -2,7 +2,7 @@
 use Rattle.std.specs.Prelude.{◌≡◌, ◌≤◌, ℕ, ℤ, pos, List, length, slice_index_or, unsigned_abs}
 use Rattle.std.specs.Int.{bit_at}
 use Rattle.std.specs.List.{All}
-use Rattle.vrp_customers.specs.declared.customer_set.TheConstants.{PLACES}
+use Rattle.vrp_model.specs.declared.customers.customer_set.TheConstants.{PLACES}
 use Rattle.vrp_model.specs.Problem.{Problem, place_count}
 use Rattle.vrp_duals.specs.Duals.{HasRowSize, IsRemembered}
 use Rattle.vrp_duals.specs.declared.limits.TheConstants.{MAX_ENTRY_PRICE, MAX_ENTRY_ROWS, MAX_PRICE, MAX_ROW_PRICE, MAX_SCALE, MAX_SUBSET_ROWS}

@@ -4,7 +4,7 @@
 use Rattle.std.specs.Prelude.{◌≡◌, ◌⊎◌, ◌≤◌, ◌<◌, ◌≤ℤ◌, ℕ, ℤ, pos, ◌+ℤ◌, ◌-ℤ◌, ◌*ℤ◌, ◌+◌, ◌-◌, ◌*◌, ◌/◌, ◌%◌, ◌==◌, ◌||◌, IsSomeAnd, IsTrue, Option, List, [], ◌∷◌, ◌++◌, count_ones, length, min, slice_index_or, unsigned_abs}
 use Rattle.std.specs.Int.{bit_at}
 use Rattle.std.specs.List.{All, range_with_len, sum_by}
-use Rattle.vrp_customers.specs.declared.customer_set.TheConstants.{PLACES}
+use Rattle.vrp_model.specs.declared.customers.customer_set.TheConstants.{PLACES}
 use Rattle.vrp_model.specs.Problem.{Problem, customers, demand_of, place_count}
 use Rattle.vrp_model.specs.Route.{route_cost}
 use Rattle.vrp_duals.specs.declared.limits.TheConstants.{MAX_ENTRY_PRICE, MAX_ENTRY_ROWS, MAX_PRICE, MAX_ROW_PRICE, MAX_SCALE, MAX_SUBSET_ROWS}

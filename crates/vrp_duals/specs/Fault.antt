@@ -2,7 +2,7 @@
 use Rattle.std.specs.Prelude.{◌≡◌, ◌≢◌, ◌⊎◌, ◌≤◌, ◌<◌, pos, length, unsigned_abs}
 use Rattle.std.specs.Int.{bit_at}
 use Rattle.std.specs.List.{All}
-use Rattle.vrp_customers.specs.declared.customer_set.TheConstants.{PLACES}
+use Rattle.vrp_model.specs.declared.customers.customer_set.TheConstants.{PLACES}
 use Rattle.vrp_model.specs.Problem.{Problem, place_count}
 use Rattle.vrp_duals.specs.Duals.{DualsOf, HasRowSize, IsRemembered, price_of}
 use Rattle.vrp_duals.specs.declared.fault.DualFault.{DualFault}

@@ -2,7 +2,7 @@
 ghost use Rattle.std.specs.Prelude.{◌≡◌, ◌≤◌, ◌<◌, ◌↔◌, ℕ, ℤ, pos, IfErr, IsTrue, List, OnOk, length, slice_index_or, unsigned_abs};
 ghost use Rattle.std.specs.Int.{bit_at};
 ghost use Rattle.std.specs.List.{All};
-ghost use Rattle.vrp_customers.specs.declared.customer_set.TheConstants.{PLACES};
+ghost use Rattle.vrp_model.specs.declared.customers.customer_set.TheConstants.{PLACES};
 ghost use Rattle.vrp_model.specs.Problem.{Problem};
 ghost use Rattle.vrp_duals.specs.Checked.{AreEntryRows, ArePrices, AreSubsetRows};
 ghost use Rattle.vrp_duals.specs.Duals.{HasRowSize, IsRemembered, duals_of};
@@ -16,8 +16,7 @@ use crate::limits::{
     MAX_ENTRY_PRICE, MAX_ENTRY_ROWS, MAX_PRICE, MAX_ROW_PRICE, MAX_SCALE, MAX_SUBSET_ROWS,
 };
 use crate::rows::{EntryRow, SubsetRow};
-use vrp_customers::PLACES;
-use vrp_model::Instance;
+use vrp_model::{Instance, PLACES};
 
 /// Refuses a scale or prices of places that don't fit the instance.
 pub fn check_prices(instance: &Instance, scale: u32, prices: &[i64]) -> Result<(), DualFault>

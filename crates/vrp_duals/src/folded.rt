@@ -1,7 +1,7 @@
 //! Dual prices folded into prices of arcs and sets of rows.
 ghost use Rattle.std.specs.Prelude.{◌≡◌, ◌≤◌, ◌<◌, ◌+◌, ◌*◌, ◌↔◌, ℕ, pos, IfOk, IsTrue, length, slice_index, slice_index_or, unsigned_abs};
 ghost use Rattle.std.specs.List.{All};
-ghost use Rattle.vrp_customers.specs.declared.customer_set.TheConstants.{PLACES};
+ghost use Rattle.vrp_model.specs.declared.customers.customer_set.TheConstants.{PLACES};
 ghost use Rattle.vrp_duals.specs.Folding.{AreReversed, arc_of, due_at, members_at, memories_at, remembering, rows_at, weigh};
 ghost use Rattle.vrp_duals.specs.declared.limits.TheConstants.{MAX_ARC_PRICE, MAX_ROW_CHARGE};
 

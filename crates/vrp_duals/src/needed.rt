@@ -1,14 +1,13 @@
 //! Whether every feasible plan obeys an entry row.
 ghost use Rattle.std.specs.Prelude.{◌≡◌, ◌≤◌, ◌<◌, ◌*◌, ◌↔◌, IsSomeAnd, IsTrue};
 ghost use Rattle.std.specs.Int.{bit_at};
-ghost use Rattle.vrp_customers.specs.declared.customer_set.TheConstants.{PLACES};
+ghost use Rattle.vrp_model.specs.declared.customers.customer_set.TheConstants.{PLACES};
 ghost use Rattle.vrp_model.specs.Problem.{demand_of, place_count};
 ghost use Rattle.vrp_model.specs.declared.limits.TheConstants.{MAX_WHOLE_DEMAND};
 ghost use Rattle.vrp_duals.specs.Duals.{HasAllCustomers, IsNeeded, IsNeededByDemand, IsNeededByLeast, IsNeededByMost, IsNeededByTrucks, IsNeededFor, set_demand};
 
 use crate::rows::EntryRow;
-use vrp_customers::{CustomerSet, all_customers};
-use vrp_model::Instance;
+use vrp_model::{CustomerSet, Instance, all_customers};
 
 impl EntryRow {
     /// Whether every feasible plan obeys the row for a reason of its own: its price is not negative and its customers demand more than

@@ -1,12 +1,12 @@
 //! Sets of subset rows.
 ghost use Rattle.std.specs.Prelude.{◌≡◌, ◌==◌, ◌<◌, ◌-◌, ◌^◌, ◌↔◌, IfNone, IfSome, IsTrue, bit_and, bit_or, bit_xor};
 ghost use Rattle.std.specs.Int.{bit_at};
-ghost use Rattle.vrp_customers.specs.CustomerSet.{IsFirst};
+ghost use Rattle.vrp_model.specs.CustomerSet.{IsFirst};
 ghost use Rattle.vrp_duals.specs.declared.limits.TheConstants.{MAX_SUBSET_ROWS};
 
 use crate::limits::MAX_SUBSET_ROWS;
 use std::marker::Model;
-use vrp_customers::CustomerSet;
+use vrp_model::CustomerSet;
 
 /// A set of subset rows, by their places in a list of at most `MAX_SUBSET_ROWS`. A clause sees it as the number whose bits are the rows.
 #[derive(Clone, Copy, Debug)]

@@ -1,6 +1,6 @@
 //! The priced rows of a linear program over routes, beside those of the customers.
 
-use vrp_customers::CustomerSet;
+use vrp_model::CustomerSet;
 
 /// A set of customers, none of them the depot. Plans enter it at least `count` times where the price is above 0, and at most `count` times
 /// where it is below 0. Each arc that enters the set is paid the price, in price units.

@@ -1,7 +1,7 @@
 //! Sums of dual prices.
 ghost use Rattle.std.specs.Prelude.{◌≡◌, ◌≤◌, ◌<◌, ◌-◌, ◌*◌, ◌^◌, ◌↔◌, IsTrue, pos, ◌*ℤ◌, length, slice_index_or, unsigned_abs};
 ghost use Rattle.std.specs.List.{All, range_with_len, sum_by};
-ghost use Rattle.vrp_customers.specs.declared.customer_set.TheConstants.{PLACES};
+ghost use Rattle.vrp_model.specs.declared.customers.customer_set.TheConstants.{PLACES};
 ghost use Rattle.vrp_duals.specs.Duals.{HasRowSize, entry, int_sum_by, most_pairs};
 ghost use Rattle.vrp_duals.specs.Folding.{weigh};
 ghost use Rattle.vrp_duals.specs.declared.limits.TheConstants.{MAX_ENTRY_PRICE, MAX_ENTRY_ROWS, MAX_PRICE, MAX_ROW_CHARGE, MAX_ROW_PRICE, MAX_SUBSET_ROWS};

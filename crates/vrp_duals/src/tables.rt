@@ -2,7 +2,7 @@
 ghost use Rattle.std.specs.Prelude.{◌≡◌, ◌≤◌, ◌<◌, ℕ, IfOk, length, map, slice_index};
 ghost use Rattle.std.specs.Int.{bit_at};
 ghost use Rattle.std.specs.List.{All};
-ghost use Rattle.vrp_customers.specs.declared.customer_set.TheConstants.{PLACES};
+ghost use Rattle.vrp_model.specs.declared.customers.customer_set.TheConstants.{PLACES};
 ghost use Rattle.vrp_duals.specs.Folding.{bits_of};
 ghost use Rattle.vrp_duals.specs.declared.limits.TheConstants.{MAX_ROW_PRICE, MAX_SUBSET_ROWS};
 ghost use Rattle.vrp_duals.specs.declared.rows.SubsetRow.{SubsetRow};

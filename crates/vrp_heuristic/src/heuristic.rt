@@ -9,8 +9,7 @@ use crate::surroundings::Surroundings;
 use crate::threshold::{Length, Threshold};
 use std::alloc::Global;
 use std::thread::Threads;
-use vrp_customers::MOST_CUSTOMERS;
-use vrp_model::{Crew, Instance, NoMemory, Plan, Watch};
+use vrp_model::{Crew, Instance, MOST_CUSTOMERS, NoMemory, Plan, Watch};
 use vrp_search_tree::{cheaper_plan, lawful_plan};
 
 /// With this many moves a run finds the cheapest plan of most instances of some 60 customers.

@@ -5,8 +5,10 @@ ghost use Rattle.vrp_model.specs.Route.{IsPlanOf};
 
 use std::alloc::Global;
 use std::thread::Threads;
-use vrp_customers::{CustomerSet, Fleet, MOST_CUSTOMERS, PLACES, all_customers, route_sets};
-use vrp_model::{Crew, Instance, NoMemory, Plan, Quiet, Watch};
+use vrp_model::{
+    Crew, CustomerSet, Fleet, Instance, MOST_CUSTOMERS, NoMemory, PLACES, Plan, Quiet, Watch,
+    all_customers, route_sets,
+};
 use vrp_partition::{Found, Route, Task, all_fit, cheapest_choice};
 use vrp_search_tree::cheaper_plan;
 use vrp_simplex::ProgramGuide;

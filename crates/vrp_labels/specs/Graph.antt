@@ -2,7 +2,7 @@
 -- bit for each.
 use Rattle.std.specs.Prelude.{◌≡◌, ◌≤◌, ◌<◌, ℕ, List, length, slice_index}
 use Rattle.std.specs.Int.{bit_at}
-use Rattle.vrp_customers.specs.declared.customer_set.TheConstants.{PLACES}
+use Rattle.vrp_model.specs.declared.customers.customer_set.TheConstants.{PLACES}
 use Rattle.vrp_duals.specs.Folding.{FoldedOf}
 use Rattle.vrp_labels.specs.declared.graph.TheConstants.{MAX_UNITS}
 

@@ -5,8 +5,8 @@ ghost use Rattle.vrp_labels.specs.Label.{Dominates, IsLabelOf, MayExtend, extend
 
 use crate::graph::RouteGraph;
 use crate::label::Label;
-use vrp_customers::CustomerSet;
 use vrp_duals::RowSet;
+use vrp_model::CustomerSet;
 
 impl RouteGraph {
     /// The label of no stop, from which beginnings are made.

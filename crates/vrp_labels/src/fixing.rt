@@ -13,7 +13,7 @@ use crate::graph::RouteGraph;
 use crate::label::Label;
 use crate::piles::LabelPiles;
 use std::alloc::{AllocError, Global};
-use vrp_customers::CustomerSet;
+use vrp_model::CustomerSet;
 
 /// What labels are of.
 #[derive(Clone, Copy, Debug)]

@@ -13,8 +13,8 @@ use crate::label::Label;
 use crate::widening::are_wider;
 use std::alloc::{AllocError, Global};
 use std::marker::Model;
-use vrp_customers::CustomerSet;
 use vrp_duals::{FoldedDuals, RowSet};
+use vrp_model::CustomerSet;
 
 /// The greatest capacity, in units of demand.
 pub const MAX_UNITS: u32 = 4_096;

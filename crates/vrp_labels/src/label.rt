@@ -2,8 +2,8 @@
 ghost use Rattle.std.specs.Prelude.{◌≡◌};
 ghost use Rattle.vrp_labels.specs.Label.{root_label};
 
-use vrp_customers::CustomerSet;
 use vrp_duals::RowSet;
+use vrp_model::CustomerSet;
 
 /// A label of the endings of routes that begin at a customer, or, read from the other side, of the beginnings that end there.
 #[derive(Clone, Copy, Debug)]

@@ -5,7 +5,7 @@ ghost use Rattle.vrp_labels.specs.Reversal.{AreLeaders};
 
 use crate::graph::RouteGraph;
 use std::alloc::{AllocError, Global};
-use vrp_customers::CustomerSet;
+use vrp_model::CustomerSet;
 
 impl RouteGraph {
     /// For each place, those from which the arc to it is alive. The only error is lack of memory.

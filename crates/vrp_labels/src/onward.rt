@@ -6,7 +6,7 @@ ghost use Rattle.vrp_labels.specs.Reversal.{AreLeaders};
 
 use crate::graph::RouteGraph;
 use std::alloc::{AllocError, Global};
-use vrp_customers::CustomerSet;
+use vrp_model::CustomerSet;
 
 // No entry is above this.
 const FAR: i64 = 1 << 62;

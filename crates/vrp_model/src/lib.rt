@@ -1,8 +1,9 @@
-//! The capacitated vehicle routing problem: exact weights, instances and plans, the memory of walks (ng-sets), and the definitions that
-//! the promises of all other crates cite (`specs/`).
+//! The capacitated vehicle routing problem: exact weights, instances and plans, sets of customers and the fleet, the memory of walks
+//! (ng-sets), and the definitions that the promises of all other crates cite (`specs/`).
 #![tactic(auto)]
 
 mod crew;
+mod customers;
 mod depots;
 mod instance;
 mod law;
@@ -22,6 +23,9 @@ mod symmetry;
 mod weights;
 
 pub use crew::{Crew, News, Quiet, Unhurried, Watch};
+pub use customers::{
+    CustomerSet, Fleet, FleetView, MOST_CUSTOMERS, Members, PLACES, all_customers, route_sets,
+};
 pub use instance::{Instance, InstanceError};
 pub use law::{
     canonical_is_cheapest, child_cases, equal_words_equal_plans, longer_trees, one_canonical,

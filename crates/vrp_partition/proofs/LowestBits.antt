@@ -8,7 +8,7 @@ use Rattle.std.proofs.Math.IntN.{zero-*ℤ, *ℤ-one, *ℤ_comm, one}
 use Rattle.std.proofs.lemmas.Int.{ints}
 use Rattle.std.proofs.lemmas.List.Elements.{All-head, All-tail}
 use Rattle.std.proofs.lemmas.Nat.Bits.{bit_at-suc, bit_at_and, bit_at_lowest}
-use Rattle.vrp_customers.specs.CustomerSet.{IsFirst}
+use Rattle.vrp_model.specs.CustomerSet.{IsFirst}
 use Rattle.vrp_partition.specs.Prices.{dual_sum, load_of}
 use Rattle.vrp_partition.proofs.Weights.{and_lowest, and_half}
 

@@ -1,7 +1,7 @@
 -- The nodes of a search, and what is known of them. `fewest`: choices with fewer routes are out of the question.
 use Rattle.std.specs.Prelude.{◌≡◌, ◌≤◌, ◌<◌, ◌⊎◌, ◌^◌, ◌++◌, ◌∷◌, [], ℕ, ⊤, List, IfOk, Result, length, slice_index_or}
 use Rattle.std.specs.List.{All, Contains, filter}
-use Rattle.vrp_customers.specs.declared.customer_set.TheConstants.{PLACES}
+use Rattle.vrp_model.specs.declared.customers.customer_set.TheConstants.{PLACES}
 use Rattle.vrp_partition.specs.Choice.{IsCheapest, IsChoice, NoneBelow, cost_of, is_apart, is_together, set_of}
 use Rattle.vrp_partition.specs.Prices.{AllFit}
 use Rattle.vrp_partition.specs.declared.bounding.Chosen.{Chosen}

@@ -1,7 +1,7 @@
 -- Prices of customers and cuts, the reduced costs of routes and the lower bound by them.
 use Rattle.std.specs.Prelude.{◌≡◌, ◌≤◌, ◌<◌, ◌⊎◌, ◌+◌, ◌*◌, ◌/◌, ◌%◌, ℕ, ℤ, pos, ◌+ℤ◌, ◌-ℤ◌, ◌*ℤ◌, Bool, nat_le, if◌then◌else◌, List, [], ◌∷◌, bit_and, count_ones, length, unsigned_abs, ◌^◌, int_le, ◌≤ℤ◌}
 use Rattle.std.specs.List.{All, sum_by}
-use Rattle.vrp_customers.specs.declared.customer_set.TheConstants.{PLACES}
+use Rattle.vrp_model.specs.declared.customers.customer_set.TheConstants.{PLACES}
 use Rattle.vrp_partition.specs.Choice.{IsChoice, comes_to, routes_to, set_of}
 use Rattle.vrp_partition.specs.declared.prices.Cut.{Cut}
 use Rattle.vrp_partition.specs.declared.prices.PriceOffer.{PriceOffer}

@@ -14,7 +14,7 @@ use crate::prices::{PriceOffer, Prices, SCALE};
 use crate::route::Route;
 use crate::task::Task;
 use std::alloc::{AllocError, Global};
-use vrp_customers::{CustomerSet, PLACES};
+use vrp_model::{CustomerSet, PLACES};
 
 // With more routes than these a node is branched on at once.
 const MOST_COLUMNS: usize = 3_000;

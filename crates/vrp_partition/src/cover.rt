@@ -4,7 +4,7 @@ ghost use Rattle.std.specs.Int.{bit_at};
 ghost use Rattle.vrp_partition.specs.Covering.{IsLeast, is_inside};
 
 use std::alloc::{AllocError, Global};
-use vrp_customers::{CustomerSet, PLACES};
+use vrp_model::{CustomerSet, PLACES};
 
 /// A column of the set partitioning: a route's customers, its reduced cost, which is not negative, and its cost.
 #[derive(Debug, Clone, Copy)]

@@ -3,7 +3,7 @@ use crate::prices::PriceOffer;
 use crate::route::Route;
 use crate::task::Task;
 use std::alloc::AllocError;
-use vrp_customers::CustomerSet;
+use vrp_model::CustomerSet;
 
 /// The guide of a search. None of its answers is trusted: the cost that the search finds does not depend on them, if its budget suffices.
 /// An error ends the search.

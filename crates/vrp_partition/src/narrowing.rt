@@ -11,8 +11,7 @@ use crate::priced::marks_by_prices;
 use crate::route::Route;
 use crate::task::Query;
 use std::alloc::{AllocError, Global};
-use vrp_customers::PLACES;
-use vrp_model::{News, Watch};
+use vrp_model::{News, PLACES, Watch};
 
 // The most rounds.
 const MOST_ROUNDS: u32 = 32;

@@ -8,7 +8,7 @@ ghost use Rattle.vrp_partition.specs.declared.prices.TheConstants.{SCALE};
 use crate::prices::{Prices, demand_of};
 use crate::route::Route;
 use std::alloc::{AllocError, Global};
-use vrp_customers::{CustomerSet, PLACES};
+use vrp_model::{CustomerSet, PLACES};
 
 /// The reduced cost of each route by the prices.
 pub fn reduced_costs(alloc: Global, prices: &Prices, pool: &[Route]) -> Result<Vec<i64>, AllocError>

@@ -10,7 +10,7 @@ use crate::prices::{PriceOffer, Prices};
 use crate::route::Route;
 use crate::task::{Query, Task};
 use std::alloc::{AllocError, Global};
-use vrp_customers::PLACES;
+use vrp_model::PLACES;
 
 // The number of offers that are tried: the guide's offer, the same with lower duals, and prices of 0.
 const MOST_OFFERS: u32 = 3;

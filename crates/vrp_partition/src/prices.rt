@@ -8,7 +8,7 @@ ghost use Rattle.vrp_partition.specs.declared.prices.TheConstants.{SCALE};
 
 use std::alloc::{AllocError, Global};
 use std::marker::Model;
-use vrp_customers::{CustomerSet, PLACES};
+use vrp_model::{CustomerSet, PLACES};
 
 /// The number of price units in a unit of cost.
 pub const SCALE: u64 = 1 << 20;

@@ -1,5 +1,5 @@
 //! Routes, as a choice among them sees them.
-use vrp_customers::CustomerSet;
+use vrp_model::CustomerSet;
 
 /// A route: its customers and its cost.
 #[derive(Debug, Clone, Copy)]

@@ -15,8 +15,7 @@ use crate::task::Task;
 use std::alloc::{AllocError, Global};
 use std::marker::Model;
 use std::thread::{Threads, for_each_mut};
-use vrp_customers::PLACES;
-use vrp_model::{Crew, News, Watch};
+use vrp_model::{Crew, News, PLACES, Watch};
 
 // The number of open nodes that are looked at in parallel, for any number of workers: so a search takes the same steps with every number
 // of them.

@@ -1,5 +1,5 @@
 //! What a search looks for among the routes of a pool.
-use vrp_customers::{CustomerSet, FleetView};
+use vrp_model::{CustomerSet, FleetView};
 
 /// A search for the cheapest choice that serves these customers with the fleet's trucks and costs less than the incumbent.
 #[derive(Clone, Copy, Debug)]

@@ -4,9 +4,9 @@ use Rattle.std.specs.Int.{bit_at}
 use Rattle.std.specs.List.{All}
 use Rattle.std.proofs.lemmas.List.Elements.{All-head, All-tail}
 use Rattle.std.proofs.lemmas.Nat.Bits.{bit_at-lt, bit_at-pow_same, bit_at_or}
-use Rattle.vrp_customers.specs.declared.customer_set.TheConstants.{PLACES}
-use Rattle.vrp_customers.specs.CustomerSet.{set_of}
-use Rattle.vrp_customers.proofs.Sets.{bit_of}
+use Rattle.vrp_model.specs.declared.customers.customer_set.TheConstants.{PLACES}
+use Rattle.vrp_model.specs.CustomerSet.{set_of}
+use Rattle.vrp_model.proofs.Sets.{bit_of}
 use Rattle.vrp_model.specs.Problem.{IsProblem, Problem, customers, place_count}
 use Rattle.vrp_model.specs.declared.limits.TheConstants.{NO_COST}
 use Rattle.vrp_model.proofs.CustomerPlaces.{customer_below, is_customer}

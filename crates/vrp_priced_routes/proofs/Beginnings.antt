@@ -4,8 +4,8 @@ use lib.Signed.{le_z}
 use Rattle.std.proofs.lemmas.Bool.{cases_Bool}
 use Rattle.std.proofs.lemmas.Int.{ints}
 use Rattle.std.proofs.lemmas.List.{reverse-append, reverse-reverse}
-use Rattle.vrp_customers.specs.CustomerSet.{set_of}
-use Rattle.vrp_customers.proofs.Sets.{set_with}
+use Rattle.vrp_model.specs.CustomerSet.{set_of}
+use Rattle.vrp_model.proofs.Sets.{set_with}
 use Rattle.vrp_duals.proofs.ArcSteps.{same_z}
 use Rattle.vrp_duals.specs.Folding.{arc_of, folded_cost, weigh}
 use Rattle.vrp_labels.specs.Completion.{IsForward, MayAdvance}

@@ -2,7 +2,7 @@
 use Rattle.std.specs.Prelude.{◌≡◌, ◌≤◌, ℕ, List, [], ◌∷◌, length, slice_index}
 use Rattle.std.specs.Int.{bit_at}
 use Rattle.std.specs.List.{All}
-use Rattle.vrp_customers.specs.declared.customer_set.TheConstants.{PLACES}
+use Rattle.vrp_model.specs.declared.customers.customer_set.TheConstants.{PLACES}
 use Rattle.vrp_model.specs.Problem.{IsProblem, Problem, place_count}
 use Rattle.vrp_model.specs.Route.{IsLawful}
 use Rattle.vrp_model.specs.declared.limits.TheConstants.{NO_COST}

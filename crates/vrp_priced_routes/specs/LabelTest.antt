@@ -1,6 +1,6 @@
 -- The completion test by labels: what it counts along a beginning, and what is known of it.
 use Rattle.std.specs.Prelude.{◌≡◌, ℕ, ℤ, List, reverse}
-use Rattle.vrp_customers.specs.CustomerSet.{set_of}
+use Rattle.vrp_model.specs.CustomerSet.{set_of}
 use Rattle.vrp_labels.specs.Completion.{CompletionsOf, IsForward}
 use Rattle.vrp_labels.specs.Graph.{GraphOf}
 use Rattle.vrp_labels.specs.Label.{IsLabelOf}

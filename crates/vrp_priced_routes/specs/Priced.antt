@@ -1,7 +1,7 @@
 -- A graph of labels by dual prices, and what its closed labels say of plans.
 use Rattle.std.specs.Prelude.{◌≡◌, ◌≤◌, ◌≤ℤ◌, ◌+ℤ◌, ℕ, ℤ, pos, List, length, unsigned_abs}
 use Rattle.std.specs.List.{All}
-use Rattle.vrp_customers.specs.declared.customer_set.TheConstants.{PLACES}
+use Rattle.vrp_model.specs.declared.customers.customer_set.TheConstants.{PLACES}
 use Rattle.vrp_model.specs.Problem.{IsProblem, Problem, customers, place_count}
 use Rattle.vrp_model.specs.Route.{IsLawful, plan_cost}
 use Rattle.vrp_model.specs.declared.limits.TheConstants.{MAX_NODES, NO_COST}

@@ -1,6 +1,6 @@
 //! The arcs that feasible plans in a range go along.
 ghost use Rattle.std.specs.Prelude.{◌≡◌, ◌≤◌, ◌<◌, ℕ, IfOk};
-ghost use Rattle.vrp_customers.specs.declared.customer_set.TheConstants.{PLACES};
+ghost use Rattle.vrp_model.specs.declared.customers.customer_set.TheConstants.{PLACES};
 ghost use Rattle.vrp_model.specs.Problem.{place_count};
 ghost use Rattle.vrp_model.specs.declared.limits.TheConstants.{NO_COST};
 ghost use Rattle.vrp_priced_routes.specs.Arcs.{HoldPlans, IsAlive};
@@ -8,8 +8,7 @@ ghost use Rattle.vrp_routes.specs.Range.{IsPart, plans_within};
 
 use std::alloc::Global;
 use std::marker::Model;
-use vrp_customers::{CustomerSet, all_customers};
-use vrp_model::{Instance, NoMemory};
+use vrp_model::{CustomerSet, Instance, NoMemory, all_customers};
 use vrp_routes::PlanRange;
 
 /// For each place of an instance those that may come behind it on a route: a feasible plan in the range goes along these arcs alone. A pass

@@ -8,9 +8,8 @@ ghost use Rattle.vrp_priced_routes.specs.Closed.{IfRoundClosed};
 ghost use Rattle.vrp_priced_routes.specs.Priced.{HasDepth};
 
 use crate::priced_graph::PricedGraph;
-use vrp_customers::CustomerSet;
 use vrp_labels::{Closing, ClosingLimit, Completions, RouteGraph, close};
-use vrp_model::{Crew, NoMemory, Watch};
+use vrp_model::{Crew, CustomerSet, NoMemory, Watch};
 
 /// What comes of closing labels.
 #[derive(Drop)]

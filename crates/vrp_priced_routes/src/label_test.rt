@@ -9,10 +9,9 @@ ghost use Rattle.vrp_priced_routes.specs.LabelTest.{AreLabelled, label_by};
 
 use std::marker::Model;
 use std::mem::size_of;
-use vrp_customers::CustomerSet;
 use vrp_duals::RowSet;
 use vrp_labels::{Completions, Label, RouteGraph};
-use vrp_model::Instance;
+use vrp_model::{CustomerSet, Instance};
 use vrp_routes::{CompletionTest, PlanRange};
 
 /// What the test counts along a beginning: the subset rows in state 1, the cost in price units, and the load in units of demand.

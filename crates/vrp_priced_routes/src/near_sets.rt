@@ -1,11 +1,10 @@
 //! Ng-sets: which customers a label at a place can remember.
 ghost use Rattle.std.specs.Prelude.{◌≡◌, ◌≤◌, ◌<◌, IfOk, length};
-ghost use Rattle.vrp_customers.specs.declared.customer_set.TheConstants.{PLACES};
+ghost use Rattle.vrp_model.specs.declared.customers.customer_set.TheConstants.{PLACES};
 ghost use Rattle.vrp_model.specs.Problem.{place_count};
 
 use std::alloc::Global;
-use vrp_customers::{CustomerSet, PLACES};
-use vrp_model::{Instance, NoMemory};
+use vrp_model::{CustomerSet, Instance, NoMemory, PLACES};
 
 // The arcs of a customer to a place and back.
 #[derive(Clone, Copy, PartialEq, Eq, PartialOrd, Ord)]

@@ -12,10 +12,9 @@ use crate::fault::PassFault;
 use crate::priced_graph::PricedGraph;
 use crate::priced_labels::PricedLabels;
 use std::alloc::Global;
-use vrp_customers::CustomerSet;
 use vrp_duals::Duals;
 use vrp_labels::{ClosingLimit, LabelPiles};
-use vrp_model::{Crew, NoMemory, Watch};
+use vrp_model::{Crew, CustomerSet, NoMemory, Watch};
 
 /// What comes of a pass.
 #[derive(Drop)]

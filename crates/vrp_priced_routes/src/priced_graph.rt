@@ -1,7 +1,7 @@
 //! The graph of labels by dual prices of an instance.
 ghost use Rattle.std.specs.Prelude.{◌≡◌, ◌≤◌, ◌↔◌, IfErr, IfOk, IsTrue, length};
 ghost use Rattle.std.specs.List.{All};
-ghost use Rattle.vrp_customers.specs.declared.customer_set.TheConstants.{PLACES};
+ghost use Rattle.vrp_model.specs.declared.customers.customer_set.TheConstants.{PLACES};
 ghost use Rattle.vrp_duals.specs.Duals.{AreDualsOf, IsNeededFor};
 ghost use Rattle.vrp_duals.specs.declared.rows.EntryRow.{EntryRow};
 ghost use Rattle.vrp_model.specs.Problem.{place_count};
@@ -14,10 +14,9 @@ use crate::fault::PassFault;
 use crate::units::{UnitDemands, unit_demands};
 use std::alloc::Global;
 use std::marker::Model;
-use vrp_customers::CustomerSet;
 use vrp_duals::{Duals, EntryRow};
 use vrp_labels::{GraphParts, RouteGraph};
-use vrp_model::{Instance, NoMemory};
+use vrp_model::{CustomerSet, Instance, NoMemory};
 use vrp_routes::PlanRange;
 
 /// An instance, a range of plans, dual prices, and the graph of labels by them: plans in the range go along its arcs.

@@ -1,6 +1,6 @@
 //! Demands and the capacity in units, as labels count them.
 ghost use Rattle.std.specs.Prelude.{◌≤◌, IfOk, IfSome};
-ghost use Rattle.vrp_customers.specs.declared.customer_set.TheConstants.{PLACES};
+ghost use Rattle.vrp_model.specs.declared.customers.customer_set.TheConstants.{PLACES};
 ghost use Rattle.vrp_model.specs.Problem.{place_count};
 ghost use Rattle.vrp_labels.specs.declared.graph.TheConstants.{MAX_UNITS};
 ghost use Rattle.vrp_priced_routes.specs.Units.{CarryRoutes};

@@ -9,8 +9,8 @@ use Rattle.vrp_model.specs.Order.{ComesBefore, IsEarlier}
 use Rattle.vrp_model.specs.Problem.{Problem}
 use Rattle.vrp_model.specs.Route.{route_cost}
 use Rattle.vrp_routes.specs.ClosedLevel.{AreClosedIn, HasPlaces, IsAdded, IsLeftOut, IsReplaced, TakesRoute, closed_at, no_closed, place_of, route_by}
-use Rattle.vrp_customers.specs.CustomerSet.{set_of}
-use Rattle.vrp_customers.proofs.Sets.{same_set}
+use Rattle.vrp_model.specs.CustomerSet.{set_of}
+use Rattle.vrp_model.proofs.Sets.{same_set}
 use Rattle.vrp_routes.specs.Label.{IsLabel, SettingOf}
 use Rattle.vrp_routes.specs.Level.{IsLevel}
 use Rattle.vrp_routes.specs.Pool.{IsListed}

@@ -4,7 +4,7 @@ use Rattle.std.proofs.Math.Seq.{get_or-append_seam}
 use Rattle.std.proofs.lemmas.Bool.{cases_lt}
 use Rattle.std.proofs.lemmas.List.Elements.{All-append, All-nil, Contains-append_left, Contains-append_right}
 use Rattle.vrp_model.specs.Problem.{Problem}
-use Rattle.vrp_customers.specs.CustomerSet.{folded_of, set_of}
+use Rattle.vrp_model.specs.CustomerSet.{folded_of, set_of}
 use Rattle.vrp_routes.specs.ClosedLevel.{AreClosed, AreClosedIn, AreClosedParts, closing_share, is_closed_in, route_by}
 use Rattle.vrp_routes.specs.Pool.{IsListed}
 use Rattle.vrp_routes.specs.declared.closed.ClosedRoute.{ClosedRoute}

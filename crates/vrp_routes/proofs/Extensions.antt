@@ -27,7 +27,7 @@ use Rattle.vrp_routes.proofs.FeasibleRoutes.{ends_at, useful_begins}
 use Rattle.vrp_routes.proofs.Replaced.{earlier_longer, no_better_beginning}
 use Rattle.vrp_routes.proofs.Rests.{none_between}
 use Rattle.vrp_routes.proofs.SharesSteps.{element}
-use Rattle.vrp_customers.proofs.Sets.{same_set}
+use Rattle.vrp_model.proofs.Sets.{same_set}
 use Rattle.vrp_routes.specs.declared.plan_range.PlanRange.{PlanRange}
 
 -- ---- keys

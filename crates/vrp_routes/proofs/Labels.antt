@@ -20,8 +20,8 @@ use Rattle.vrp_model.proofs.LastRoute.{last_symbol_with}
 use Rattle.vrp_model.proofs.PlanWords.{cost_parts}
 use Rattle.vrp_model.proofs.Words.{last_is}
 use Rattle.vrp_model.proofs.Recalled.{contained_stands, stands_contained}
-use Rattle.vrp_customers.specs.CustomerSet.{set_of}
-use Rattle.vrp_customers.proofs.Sets.{set_with, stands_if_set, stands_not_if_not_set}
+use Rattle.vrp_model.specs.CustomerSet.{set_of}
+use Rattle.vrp_model.proofs.Sets.{set_with, stands_if_set, stands_not_if_not_set}
 use Rattle.vrp_routes.specs.Label.{IsBeginning, IsBeginningWith, IsLabel, SettingOf}
 use Rattle.vrp_routes.specs.Level.{IsLevel}
 use Rattle.vrp_routes.specs.Useful.{BeginsUseful, IsUsefulIn}

@@ -4,7 +4,7 @@ use Rattle.std.specs.Global.{Global}
 use Rattle.std.specs.HashMap.{get}
 use Rattle.std.specs.List.{All, Contains}
 use Rattle.vrp_model.specs.Problem.{Problem}
-use Rattle.vrp_customers.specs.CustomerSet.{folded_of, set_of}
+use Rattle.vrp_model.specs.CustomerSet.{folded_of, set_of}
 use Rattle.vrp_routes.specs.Label.{SettingOf}
 use Rattle.vrp_routes.specs.Level.{IsLevel}
 use Rattle.vrp_routes.specs.Pool.{IsListed, RouteOf}

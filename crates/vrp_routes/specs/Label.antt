@@ -5,7 +5,7 @@ use Rattle.vrp_model.specs.Problem.{Problem, customers}
 use Rattle.vrp_model.specs.Route.{load_of}
 use Rattle.vrp_model.specs.Word.{last_symbol, word_cost}
 use Rattle.vrp_model.specs.declared.limits.TheConstants.{MAX_WEIGHT}
-use Rattle.vrp_customers.specs.CustomerSet.{set_of}
+use Rattle.vrp_model.specs.CustomerSet.{set_of}
 use Rattle.vrp_routes.specs.declared.label.Label.{Label}
 use Rattle.vrp_routes.specs.declared.plan_range.PlanRange.{PlanRange}
 

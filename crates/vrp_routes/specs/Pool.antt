@@ -3,7 +3,7 @@ use Rattle.std.specs.Prelude.{◌≡◌, ◌≢◌, ℕ, List, []}
 use Rattle.std.specs.List.{All, Contains}
 use Rattle.vrp_model.specs.Problem.{Problem}
 use Rattle.vrp_model.specs.Route.{load_of, route_cost}
-use Rattle.vrp_customers.specs.CustomerSet.{set_of}
+use Rattle.vrp_model.specs.CustomerSet.{set_of}
 use Rattle.vrp_routes.specs.Label.{IsBeginning}
 use Rattle.vrp_routes.specs.Range.{plans_within}
 use Rattle.vrp_routes.specs.Useful.{IsUsefulIn}

@@ -12,8 +12,7 @@ use crate::setting::Setting;
 use crate::share::Share;
 use std::alloc::Global;
 use std::collections::HashMap;
-use vrp_customers::CustomerSet;
-use vrp_model::NoMemory;
+use vrp_model::{CustomerSet, NoMemory};
 
 /// Labels of one length whose last customer is in a share, in the order of their stops, symbol by symbol. Among labels with the same
 /// customers and the same last one the cheapest is kept, and among equal ones the earliest.

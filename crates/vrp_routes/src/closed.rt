@@ -2,7 +2,7 @@
 ghost use Rattle.std.specs.Prelude.{◌≡◌, ◌≢◌, ◌+◌, ◌^◌, ◌<◌, ◌≤◌, ℕ, true, List, [], OnOk, IfOk, IfNone, IfSome, drop, length, vec_len};
 ghost use Rattle.vrp_model.specs.Problem.{Problem};
 ghost use Rattle.vrp_model.specs.Route.{route_cost};
-ghost use Rattle.vrp_customers.specs.CustomerSet.{set_of};
+ghost use Rattle.vrp_model.specs.CustomerSet.{set_of};
 ghost use Rattle.vrp_routes.specs.ClosedLevel.{AreClosed, AreClosedIn, AreClosedParts, CanClose, HasPlaces, TakesRoute, closing_share, is_closed_in};
 ghost use Rattle.vrp_routes.specs.Label.{IsLabel};
 ghost use Rattle.vrp_routes.specs.Level.{IsLevel};
@@ -17,8 +17,7 @@ use crate::tasks::values_of;
 use std::alloc::Global;
 use std::collections::HashMap;
 use std::thread::Threads;
-use vrp_customers::CustomerSet;
-use vrp_model::{Crew, NoMemory};
+use vrp_model::{Crew, CustomerSet, NoMemory};
 
 // The number of shares of the sets. The order of the routes depends on it, but not on the number of workers.
 const CLOSING_SHARES: usize = 8;

@@ -5,8 +5,7 @@ ghost use Rattle.vrp_routes.specs.Label.{IsBeginning, IsBeginningWith};
 ghost use Rattle.vrp_routes.specs.Useful.{BeginsUseful, IsUsefulIn};
 ghost use Rattle.vrp_routes.specs.declared.plan_range.PlanRange.{PlanRange};
 
-use vrp_customers::CustomerSet;
-use vrp_model::Instance;
+use vrp_model::{CustomerSet, Instance};
 
 /// Whether a beginning of a route can be completed to a useful route of an instance, as far as the test can tell. It tells by
 /// resources that it counts along the beginning, customer by customer. A test's type says which instance it is for, in which range

@@ -1,7 +1,7 @@
 //! The label of a partial route.
 ghost use Rattle.std.specs.Prelude.{◌≡◌, ◌==◌, if◌then◌else◌};
 
-use vrp_customers::CustomerSet;
+use vrp_model::CustomerSet;
 
 /// The label of a beginning of a route, which the field calls a partial path from the depot.
 // Wider fields come first, and loads are at most MAX_CAPACITY: both keep labels small.

@@ -1,7 +1,7 @@
 //! The list of useful routes, level by level: the enumeration of routes of Baldacci, Christofides and Mingozzi (2008).
 ghost use Rattle.std.specs.Prelude.{◌≡◌, ◌+◌, ◌<◌, ◌≤◌, ◌↔◌, ℕ, IfNone, IfOk, IsTrue};
 ghost use Rattle.vrp_model.specs.Problem.{IsProblem, Problem, place_count};
-ghost use Rattle.vrp_customers.specs.declared.customer_set.TheConstants.{PLACES};
+ghost use Rattle.vrp_model.specs.declared.customers.customer_set.TheConstants.{PLACES};
 ghost use Rattle.vrp_routes.specs.Listing.{AreListed, IfPool, IsListing};
 ghost use Rattle.vrp_routes.specs.Pool.{IsPoolIn};
 ghost use Rattle.vrp_routes.specs.Setting.{setting_of};
@@ -17,8 +17,7 @@ use crate::setting::Setting;
 use crate::tally::LabelTally;
 use std::alloc::Global;
 use std::thread::Threads;
-use vrp_customers::MOST_CUSTOMERS;
-use vrp_model::{Crew, Instance, NoMemory, Watch};
+use vrp_model::{Crew, Instance, MOST_CUSTOMERS, NoMemory, Watch};
 
 /// The pool of routes, or the limit that was met.
 #[derive(Drop)]

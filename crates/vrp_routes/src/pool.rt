@@ -9,8 +9,7 @@ use crate::sequences::Sequences;
 use std::alloc::Global;
 use std::collections::HashMap;
 use std::marker::Model;
-use vrp_customers::CustomerSet;
-use vrp_model::NoMemory;
+use vrp_model::{CustomerSet, NoMemory};
 
 /// Routes, numbered from 0. Each has its set of customers, its load, its cost and its customers in order.
 #[derive(Drop)]

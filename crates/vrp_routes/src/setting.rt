@@ -2,14 +2,14 @@
 ghost use Rattle.std.specs.Prelude.{◌≡◌, ◌≢◌, ◌≤◌, ◌<◌, List, [], ◌∷◌, ◌++◌, IfNone, IfSome, ℕ};
 ghost use Rattle.vrp_model.specs.Problem.{IsProblem, place_count};
 ghost use Rattle.vrp_model.specs.Route.{route_cost};
-ghost use Rattle.vrp_customers.specs.declared.customer_set.TheConstants.{PLACES};
+ghost use Rattle.vrp_model.specs.declared.customers.customer_set.TheConstants.{PLACES};
 ghost use Rattle.vrp_routes.specs.Label.{IsLabel};
 ghost use Rattle.vrp_routes.specs.Setting.{setting_of};
 ghost use Rattle.vrp_routes.specs.Useful.{BeginsUseful, IsUsefulIn};
 
 use crate::completion_test::CompletionTest;
 use crate::label::Label;
-use vrp_customers::CustomerSet;
+use vrp_model::CustomerSet;
 
 /// The completion test of all labels, for an instance whose customers fit a set.
 #[derive(Drop)]

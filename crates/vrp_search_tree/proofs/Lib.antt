@@ -1,9 +1,9 @@
+pub mod ArcsIn
 pub mod BeginsCounted
 pub mod ChildScan
 pub mod ChildrenListed
 pub mod CuttingPasses
 pub mod CuttingReplaced
-pub mod PrefixLength
 pub mod GreatestUnserved
 pub mod LowBounds
 pub mod OneLow
@@ -11,7 +11,9 @@ pub mod OnePlace
 pub mod OwnLows
 pub mod PartialViews
 pub mod PieceRefined
+pub mod PrefixLength
 pub mod Promising
+pub mod SearchProgress
 pub mod Tallies
 pub mod UnservedListed
-pub mod ArcsIn
+pub mod WordOrder

@@ -1,7 +1,9 @@
+pub mod Board
 pub mod Child
 pub mod Cutting
 pub mod Inner
 pub mod Low
 pub mod Partial
 pub mod Pruned
+pub mod Search
 pub mod Tally

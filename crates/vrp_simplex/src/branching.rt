@@ -5,7 +5,7 @@ use crate::fixed_point::{ONE, at};
 use crate::program::RouteProgram;
 use crate::subset_rows::{pair_sums, places_of, sums_of};
 use std::alloc::AllocError;
-use vrp_customers::{CustomerSet, PLACES};
+use vrp_model::{CustomerSet, PLACES};
 use vrp_partition::Route;
 
 // The pair is sought whose share of common routes is nearest to this.

@@ -6,7 +6,7 @@ use crate::fixed_point::{ONE, at, put};
 use crate::separation::{Broken, Used};
 use crate::subset_rows::places_of;
 use std::alloc::{AllocError, Global};
-use vrp_customers::{CustomerSet, FleetView, PLACES};
+use vrp_model::{CustomerSet, FleetView, PLACES};
 
 // A solution violates a cut if it visits the set at least this much too seldom.
 const LESS: i64 = ONE / 20;

@@ -1,6 +1,6 @@
 //! Cuts of the program, by the sets of their customers.
-use vrp_customers::CustomerSet;
 use vrp_linear_program::Sense;
+use vrp_model::CustomerSet;
 
 /// The kind of a cut: its statement about the routes of a choice.
 #[derive(Clone, Copy, Debug, PartialEq, Eq)]

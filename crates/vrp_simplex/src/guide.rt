@@ -6,8 +6,7 @@ use crate::program::RouteProgram;
 use crate::progress::Progress;
 use crate::start::{Start, first_program};
 use std::alloc::{AllocError, Global};
-use vrp_customers::{CustomerSet, FleetView};
-use vrp_model::Watch;
+use vrp_model::{CustomerSet, FleetView, Watch};
 use vrp_partition::{Guide, PriceOffer, Route, SCALE, Task};
 
 /// A guide by the linear program over the routes of a node. It keeps its program from node to node; a watch may stop it.

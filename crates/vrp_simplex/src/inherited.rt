@@ -2,7 +2,7 @@
 use crate::cut::{Cut, CutKind};
 use crate::row_prices::RowPrices;
 use std::alloc::{AllocError, Global};
-use vrp_customers::{CustomerSet, FleetView};
+use vrp_model::{CustomerSet, FleetView};
 
 /// Prices offered for a pool of this many routes that serve these customers, and their bound on choices with at least so many routes.
 #[derive(Clone, Debug, Drop)]

@@ -1,7 +1,7 @@
 //! The names of a pool's routes in the program.
 use crate::program::RouteProgram;
 use std::alloc::{AllocError, Global};
-use vrp_customers::CustomerSet;
+use vrp_model::CustomerSet;
 use vrp_partition::Route;
 
 /// A route of the pool that the program has not named yet.

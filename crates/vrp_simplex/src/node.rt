@@ -5,8 +5,7 @@ use crate::program::RouteProgram;
 use crate::progress::Progress;
 use crate::row_prices::RowPrices;
 use std::alloc::{AllocError, Global};
-use vrp_customers::FleetView;
-use vrp_model::Watch;
+use vrp_model::{FleetView, Watch};
 use vrp_partition::Route;
 
 /// Below each bound.

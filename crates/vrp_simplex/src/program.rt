@@ -2,8 +2,8 @@
 use crate::cut::{Cut, CutKind};
 use crate::separation::Used;
 use std::alloc::{AllocError, Global};
-use vrp_customers::CustomerSet;
 use vrp_linear_program::{LinearProgram, MOST_ROWS, Settings};
+use vrp_model::CustomerSet;
 use vrp_partition::Route;
 
 // Right-hand sides are changed by less than so many millionths, against ties.

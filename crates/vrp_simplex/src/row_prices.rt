@@ -3,7 +3,7 @@ use crate::cut::CutKind;
 use crate::fixed_point::{in_units, price_of, wide_product};
 use crate::program::RouteProgram;
 use std::alloc::{AllocError, Global};
-use vrp_customers::{CustomerSet, PLACES};
+use vrp_model::{CustomerSet, PLACES};
 use vrp_partition::{Cut, PriceOffer, Route};
 
 // The dual of a customer that no route may serve.

@@ -2,7 +2,7 @@
 use crate::cut::{Cut, CutKind};
 use crate::program::RouteProgram;
 use std::alloc::AllocError;
-use vrp_customers::{CustomerSet, FleetView, PLACES};
+use vrp_model::{CustomerSet, FleetView, PLACES};
 
 /// A route that the solution uses, and its value.
 #[derive(Clone, Copy)]

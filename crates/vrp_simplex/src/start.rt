@@ -4,7 +4,7 @@ use crate::inherited::{Inherited, trucks_for};
 use crate::program::RouteProgram;
 use crate::row_prices::RowPrices;
 use std::alloc::{AllocError, Global};
-use vrp_customers::{CustomerSet, FleetView};
+use vrp_model::{CustomerSet, FleetView};
 use vrp_partition::Route;
 
 // The number of routes with which a program begins.

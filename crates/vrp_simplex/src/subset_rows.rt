@@ -4,7 +4,7 @@ use crate::cut::{Cut, CutKind};
 use crate::fixed_point::{ONE, at};
 use crate::separation::{Broken, Used};
 use std::alloc::{AllocError, Global};
-use vrp_customers::{CustomerSet, PLACES};
+use vrp_model::{CustomerSet, PLACES};
 
 // A solution violates a cut if it exceeds one by at least this.
 const MORE: i64 = ONE + ONE / 50;

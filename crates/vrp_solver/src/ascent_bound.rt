@@ -7,7 +7,7 @@ ghost use Rattle.vrp_model.specs.declared.ng_sets.TheConstants.{MOST_NEAR};
 use crate::stage_watch::StageWatch;
 use crate::stages::share_of;
 use vrp_answer::{Event, Gate, Shared, Stage};
-use vrp_bound_ascent::{FoundPrices, MAX_BOUND_TABLE, find_prices};
+use vrp_bound_prices::{FoundPrices, MAX_BOUND_TABLE, find_prices};
 use vrp_model::{NoMemory, Watch, plans_have_words};
 
 // The most customers near each place: with more, a round takes longer than it gains.

@@ -1,7 +1,7 @@
 //! The canonical plan as a choice among useful routes: the first of the cheapest choices.
 ghost use Rattle.std.specs.Prelude.{◌≤◌, IfOk};
 ghost use Rattle.vrp_canonical.specs.Ending.{IfBetter, IfBound, IfCanonical};
-ghost use Rattle.vrp_customers.specs.declared.customer_set.TheConstants.{PLACES};
+ghost use Rattle.vrp_model.specs.declared.customers.customer_set.TheConstants.{PLACES};
 ghost use Rattle.vrp_model.specs.Cheapest.{NoneCheaper};
 ghost use Rattle.vrp_model.specs.Order.{IsCanonical};
 ghost use Rattle.vrp_model.specs.Problem.{place_count};
@@ -14,8 +14,7 @@ use std::thread::Threads;
 use vrp_answer::{Event, Gate, Shared, Stage};
 use vrp_canonical::{LeafPool, RoutesOutcome, canonical_plan, canonical_plan_of_leaves};
 use vrp_column_generation::{LeafPools, Pools};
-use vrp_customers::{Fleet, route_sets};
-use vrp_model::{Crew, Instance, NoMemory, Plan, Watch};
+use vrp_model::{Crew, Fleet, Instance, NoMemory, Plan, Watch, route_sets};
 use vrp_simplex::ProgramGuide;
 
 /// The first of the cheapest choices of pools, which were listed for a limit up to the cost of the known plan, by all workers, with the

@@ -2,7 +2,7 @@
 //! may be in it, and the first of the cheapest choices among them is that plan.
 ghost use Rattle.std.specs.Prelude.{◌≡◌, ◌≤◌, IfOk, IfSome};
 ghost use Rattle.vrp_canonical.specs.Ending.{IfBetter, IfBound, IfCanonical};
-ghost use Rattle.vrp_customers.specs.declared.customer_set.TheConstants.{PLACES};
+ghost use Rattle.vrp_model.specs.declared.customers.customer_set.TheConstants.{PLACES};
 ghost use Rattle.vrp_model.specs.Cheapest.{NoneCheaper, cost_of};
 ghost use Rattle.vrp_model.specs.Order.{IsCanonical};
 ghost use Rattle.vrp_model.specs.Problem.{Problem, place_count};

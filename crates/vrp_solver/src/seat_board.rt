@@ -14,7 +14,7 @@ use std::sync::Wait;
 use std::sync::ledger::Ledger;
 use vrp_answer::{Event, Gate};
 use vrp_model::{NoMemory, Plan};
-use vrp_search::{Board, LOOKS_BEFORE_ASKING, Local};
+use vrp_search_tree::{Board, LOOKS_BEFORE_ASKING, Local};
 use vrp_sharing::{Caller, Register};
 
 /// A board that offers plans to a register, as one of its callers, and keeps the first of them, by cost and then by word. Its

@@ -3,7 +3,7 @@ ghost use Rattle.std.specs.Prelude.{◌≡◌, ◌*◌, ◌-◌, ◌^◌, ◌≤
 
 use crate::look::LEAST_PREPARED_BUDGET;
 use vrp_answer::Stage;
-use vrp_customers::MOST_CUSTOMERS;
+use vrp_model::MOST_CUSTOMERS;
 
 // Time is divided into twelfths.
 const PARTS: u64 = 12;

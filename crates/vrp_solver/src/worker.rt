@@ -16,8 +16,7 @@ use std::sync::Wait;
 use std::sync::ledger::Ledger;
 use vrp_answer::{Event, Finished, Gate, OpenPiece, PieceOutcome, Searched, Shared};
 use vrp_model::{NoMemory, Plan, plans_cost_less};
-use vrp_search::{Board, Ended, LOOKS_BEFORE_ASKING, search};
-use vrp_search_tree::Piece;
+use vrp_search_tree::{Board, Ended, LOOKS_BEFORE_ASKING, Piece, search};
 use vrp_sharing::{Caller, Drawn, Owner, Register, Thief};
 
 // How many times in a row a worker may find that others were drawing, before it stops drawing.

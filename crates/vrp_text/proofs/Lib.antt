@@ -1,8 +1,11 @@
 pub mod FilledToTheEnd
 pub mod InstanceLemmas
 pub mod LeastSearch
+pub mod LineLemmas
 pub mod ListedCells
+pub mod LongNumerals
 pub mod NodeLemmas
+pub mod NumeralLemmas
 pub mod OneGrid
 pub mod OneProblem
 pub mod OneRefusal
@@ -12,3 +15,4 @@ pub mod SectionLemmas
 pub mod SomeDistance
 pub mod SomeGrid
 pub mod SomeMeaning
+pub mod TokenLemmas

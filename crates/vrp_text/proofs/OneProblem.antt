@@ -9,10 +9,10 @@ use Rattle.vrp_model.specs.Grid.{Grid, entry_at}
 use Rattle.vrp_model.specs.Problem.{Problem}
 use Rattle.vrp_model.specs.Request.{problem_of, is_listed, node_demand}
 use Rattle.vrp_text.specs.Complete.{Complete, complete_of, count_fault, is_node, listed_depots, no_node, node_fault, nodes_fault}
-use Rattle.vrp_text_lexer.specs.Line.{lines_of}
+use Rattle.vrp_text.specs.Line.{lines_of}
 use Rattle.vrp_text.specs.Meaning.{MeansProblem, HasWeights, all_stated, checked, file_line_fault, or_fault, reading_of, request_from}
-use Rattle.vrp_text_lexer.specs.Part.{before_end}
-use Rattle.vrp_text_lexer.specs.declared.key.Key.{Key}
+use Rattle.vrp_text.specs.Part.{before_end}
+use Rattle.vrp_text.specs.declared.lexer.key.Key.{Key}
 use Rattle.vrp_text.specs.declared.error.TextError.{TextError}
 use Rattle.vrp_text.specs.declared.error.TextError.TheVariants as error
 use Rattle.vrp_text.proofs.ListedCells.{IsNode}

@@ -2,9 +2,9 @@
 use Rattle.std.proofs.Common.{◌≡◌, ℕ, ◌≤◌, false, None, List, length, nat_lt, refl, ◌∙◌, arith}
 use Rattle.std.specs.Prelude.{Result, Ok, Err, IfErr}
 use Rattle.std.proofs.lemmas.Bool.Decides.{nat_tests}
-use Rattle.vrp_text_lexer.specs.Line.{lines_of}
-use Rattle.vrp_text_lexer.specs.Part.{before_end}
-use Rattle.vrp_text_lexer.specs.declared.limits.TheConstants.{MAX_BYTES}
+use Rattle.vrp_text.specs.Line.{lines_of}
+use Rattle.vrp_text.specs.Part.{before_end}
+use Rattle.vrp_text.specs.declared.lexer.limits.TheConstants.{MAX_BYTES}
 use Rattle.vrp_text.specs.Complete.{complete_of}
 use Rattle.vrp_text.specs.Meaning.{all_stated, checked, file_line_fault, reading_of}
 use Rattle.vrp_text.specs.Refusal.{Refuses}

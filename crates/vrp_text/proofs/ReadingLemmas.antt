@@ -6,19 +6,19 @@ use Rattle.std.specs.Prelude.{option_map}
 use Rattle.std.specs.Result.{result_ok}
 use Rattle.std.proofs.lemmas.List.Folds.{find-append, list_any-append}
 use Rattle.vrp_text.specs.Inner.MarkedKeys.{is_marked}
-use Rattle.vrp_text_lexer.specs.Part.{Part}
+use Rattle.vrp_text.specs.Part.{Part}
 use Rattle.vrp_text.specs.Section.{content_of, content_fault, content_numbers, on_line}
 use Rattle.vrp_text.specs.Stated.{Stated, bears, is_borne, is_same_key, part_of, keyword_fault, part_fault, parts_fault, stated_by, value_fault}
 use Rattle.vrp_text.specs.Inner.StatedSoFar.{fault_of_part, nothing_stated, with_part}
-use Rattle.vrp_text_lexer.specs.Value.{value_of, problem_type, dimension, capacity, weight_kind, weight_format}
+use Rattle.vrp_text.specs.Value.{value_of, problem_type, dimension, capacity, weight_kind, weight_format}
 use Rattle.vrp_text.proofs.SectionLemmas.{both_none, on_line_none}
-use Rattle.vrp_text_lexer.specs.declared.key.Key.{Key}
-use Rattle.vrp_text_lexer.specs.declared.key.Key.TheVariants as key
+use Rattle.vrp_text.specs.declared.lexer.key.Key.{Key}
+use Rattle.vrp_text.specs.declared.lexer.key.Key.TheVariants as key
 use Rattle.vrp_text.specs.declared.error.TextError.{TextError}
-use Rattle.vrp_text_lexer.specs.declared.fault.FileLineFault.{FileLineFault}
-use Rattle.vrp_text_lexer.specs.declared.fault.FileLineFault.TheVariants.{Repeated}
-use Rattle.vrp_text_lexer.specs.declared.keyword.Keyword.{Keyword}
-use Rattle.vrp_text_lexer.specs.declared.keyword.Keyword.TheVariants as keyword
+use Rattle.vrp_text.specs.declared.lexer.fault.FileLineFault.{FileLineFault}
+use Rattle.vrp_text.specs.declared.lexer.fault.FileLineFault.TheVariants.{Repeated}
+use Rattle.vrp_text.specs.declared.lexer.keyword.Keyword.{Keyword}
+use Rattle.vrp_text.specs.declared.lexer.keyword.Keyword.TheVariants as keyword
 
 -- Some parts are read, and these are left.
 pub record HasRead (explicit : Bool) (all : List Part) (marks : List Bool) (stated : Stated) (left : List Part) : Type 0 where

@@ -4,17 +4,17 @@ use Rattle.std.specs.Prelude.{Result, Ok, Err}
 use Rattle.std.specs.Int.Signed.{◌≤ℤ◌, le_z, le_z_yes}
 use Rattle.std.proofs.lemmas.Bool.{and_parts}
 use Rattle.std.proofs.lemmas.Float.{T_from_true}
-use Rattle.vrp_text_lexer.specs.Numeral.{Numeral, in_range, value_in_range, numeral_of, whole_value}
-use Rattle.vrp_text_lexer.specs.declared.fault.FileLineFault.TheVariants.{BadNumber}
+use Rattle.vrp_text.specs.Numeral.{Numeral, in_range, value_in_range, numeral_of, whole_value}
+use Rattle.vrp_text.specs.declared.lexer.fault.FileLineFault.TheVariants.{BadNumber}
 use Rattle.std.specs.Option.{option_or}
 use Rattle.vrp_text.specs.Section.{AreWithin, lowest, highest, tokens_fault, numbers_from, data_fault, data_numbers, token_number, fault_of, number_or_zero, on_line, outside_fault}
 use Rattle.std.proofs.lemmas.Bool.Decides.{nat_tests}
-use Rattle.vrp_text_lexer.specs.Line.{Line, Data}
-use Rattle.vrp_text_lexer.specs.Part.{leading_data, parts_from}
-use Rattle.vrp_text_lexer.specs.Inner.LinesLeft.{LinesLeft, data_left, parts_left}
+use Rattle.vrp_text.specs.Line.{Line, Data}
+use Rattle.vrp_text.specs.Part.{leading_data, parts_from}
+use Rattle.vrp_text.specs.Inner.LinesLeft.{LinesLeft, data_left, parts_left}
 use Rattle.vrp_text.specs.declared.error.TextError.{TextError}
 use Rattle.vrp_text.specs.declared.error.TextError.TheVariants.{DataOutside}
-use Rattle.vrp_text_lexer.specs.declared.fault.FileLineFault.{FileLineFault}
+use Rattle.vrp_text.specs.declared.lexer.fault.FileLineFault.{FileLineFault}
 use Rattle.vrp_text.specs.declared.section.Section.{Section}
 
 -- the tokens of a line that are left, and the numbers that were read

@@ -9,14 +9,14 @@ use Rattle.vrp_model.specs.Layout.{cells}
 use Rattle.vrp_model.specs.declared.layout.Layout.{Layout}
 use Rattle.vrp_model.specs.declared.metric.Metric.{Metric}
 use Rattle.vrp_text.specs.Stated.{Stated}
-use Rattle.vrp_text_lexer.specs.declared.key.Key.{Key}
-use Rattle.vrp_text_lexer.specs.declared.key.Key.TheVariants as key
+use Rattle.vrp_text.specs.declared.lexer.key.Key.{Key}
+use Rattle.vrp_text.specs.declared.lexer.key.Key.TheVariants as key
 use Rattle.vrp_text.specs.declared.error.TextError.{TextError}
 use Rattle.vrp_text.specs.declared.error.TextError.TheVariants.{Missing, WrongCount, BadNode}
-use Rattle.vrp_text_lexer.specs.declared.value.WeightKind.{WeightKind}
-use Rattle.vrp_text_lexer.specs.declared.value.WeightKind.TheVariants as kind
-use Rattle.vrp_text_lexer.specs.declared.value.WeightFormat.{WeightFormat}
-use Rattle.vrp_text_lexer.specs.declared.value.WeightFormat.TheVariants as format
+use Rattle.vrp_text.specs.declared.lexer.value.WeightKind.{WeightKind}
+use Rattle.vrp_text.specs.declared.lexer.value.WeightKind.TheVariants as kind
+use Rattle.vrp_text.specs.declared.lexer.value.WeightFormat.{WeightFormat}
+use Rattle.vrp_text.specs.declared.lexer.value.WeightFormat.TheVariants as format
 
 infixl 10 ◌>>=◌
 abbrev pub ◌>>=◌ : {A B : Type 0} → Result A TextError → (A → Result B TextError) → Result B TextError

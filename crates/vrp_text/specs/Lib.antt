@@ -1,7 +1,13 @@
+pub mod Bytes
 pub mod Complete
 pub mod Inner
+pub mod Keyword
+pub mod Line
 pub mod Meaning
+pub mod Numeral
 pub mod OneMeaning
+pub mod Part
 pub mod Refusal
 pub mod Section
 pub mod Stated
+pub mod Value

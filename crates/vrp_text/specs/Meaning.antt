@@ -9,13 +9,13 @@ use Rattle.vrp_model.specs.Request.{Request, request_of, problem_of, IsAcceptabl
 use Rattle.vrp_model.specs.declared.instance.InstanceError.{InstanceError}
 use Rattle.vrp_model.specs.declared.instance.InstanceError.TheVariants as refusal
 use Rattle.vrp_text.specs.Complete.{Complete, Source, Points, Matrix, complete_of, count_fault, nodes_fault, listed_depots, points_of, demands_of}
-use Rattle.vrp_text_lexer.specs.Line.{Line, lines_of}
-use Rattle.vrp_text_lexer.specs.Part.{before_end, leading_data, parts_from}
+use Rattle.vrp_text.specs.Line.{Line, lines_of}
+use Rattle.vrp_text.specs.Part.{before_end, leading_data, parts_from}
 use Rattle.vrp_text.specs.Section.{outside_fault}
 use Rattle.vrp_text.specs.Stated.{Stated, is_explicit, parts_fault, stated_by}
 use Rattle.vrp_text.specs.declared.error.TextError.{TextError}
 use Rattle.vrp_text.specs.declared.error.TextError.TheVariants as error
-use Rattle.vrp_text_lexer.specs.declared.limits.TheConstants.{MAX_BYTES}
+use Rattle.vrp_text.specs.declared.lexer.limits.TheConstants.{MAX_BYTES}
 
 -- the fault of the first faulty line
 abbrev pub file_line_fault : List Line → Option TextError

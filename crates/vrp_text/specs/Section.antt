@@ -2,19 +2,19 @@
 use Rattle.std.specs.Int.Signed.{◌≤ℤ◌}
 use Rattle.std.specs.Prelude.{◌≡◌, ◌<◌, get_or, ℕ, ◌+◌, ◌%◌, ℤ, pos, neg_ℤ, Bool, ◌==◌, nat_lt, if◌then◌else◌, Option, Some, None, Result, Ok, Err, List, [], ◌∷◌, ◌++◌, length}
 use Rattle.std.specs.Option.{option_or}
-use Rattle.vrp_text_lexer.specs.Numeral.{number_of}
-use Rattle.vrp_text_lexer.specs.declared.fault.FileLineFault.{FileLineFault}
-use Rattle.vrp_text_lexer.specs.declared.key.Key.TheVariants as key
+use Rattle.vrp_text.specs.Numeral.{number_of}
+use Rattle.vrp_text.specs.declared.lexer.fault.FileLineFault.{FileLineFault}
+use Rattle.vrp_text.specs.declared.lexer.key.Key.TheVariants as key
 use Rattle.vrp_text.specs.declared.error.TextError.{TextError}
 use Rattle.vrp_text.specs.declared.error.TextError.TheVariants as error
-use Rattle.vrp_text_lexer.specs.declared.fault.FileLineFault.TheVariants as fault
-use Rattle.vrp_text_lexer.specs.declared.keyword.Keyword.{Keyword}
-use Rattle.vrp_text_lexer.specs.declared.keyword.Keyword.TheVariants as keyword
+use Rattle.vrp_text.specs.declared.lexer.fault.FileLineFault.TheVariants as fault
+use Rattle.vrp_text.specs.declared.lexer.keyword.Keyword.{Keyword}
+use Rattle.vrp_text.specs.declared.lexer.keyword.Keyword.TheVariants as keyword
 use Rattle.vrp_text.specs.declared.section.Content.{Content}
 use Rattle.vrp_text.specs.declared.section.Content.TheVariants.{Nothing, Anything, Numbers}
 use Rattle.vrp_text.specs.declared.section.Section.{Section}
 use Rattle.vrp_text.specs.declared.section.Section.TheVariants as section
-use Rattle.vrp_text_lexer.specs.declared.limits.TheConstants.{MAX_DEMAND, MAX_NODE}
+use Rattle.vrp_text.specs.declared.lexer.limits.TheConstants.{MAX_DEMAND, MAX_NODE}
 use Rattle.vrp_model.specs.declared.limits.TheConstants.{MAX_COORDINATE, MAX_WEIGHT}
 
 -- a fault on this line

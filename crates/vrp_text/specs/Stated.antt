@@ -4,19 +4,19 @@ use Rattle.std.specs.List.{find, list_any}
 use Rattle.std.specs.Option.{option_or, option_and_then}
 use Rattle.std.specs.Result.{result_ok}
 use Rattle.std.specs.Str.{bytes_eq}
-use Rattle.vrp_text_lexer.specs.Keyword.{rank}
-use Rattle.vrp_text_lexer.specs.Part.{Part}
+use Rattle.vrp_text.specs.Keyword.{rank}
+use Rattle.vrp_text.specs.Part.{Part}
 use Rattle.vrp_text.specs.Section.{content_of, content_fault, content_numbers, on_line}
-use Rattle.vrp_text_lexer.specs.Value.{value_of, problem_type, dimension, capacity, weight_kind, weight_format, no_value}
-use Rattle.vrp_text_lexer.specs.declared.key.Key.{Key}
-use Rattle.vrp_text_lexer.specs.declared.key.Key.TheVariants as key
+use Rattle.vrp_text.specs.Value.{value_of, problem_type, dimension, capacity, weight_kind, weight_format, no_value}
+use Rattle.vrp_text.specs.declared.lexer.key.Key.{Key}
+use Rattle.vrp_text.specs.declared.lexer.key.Key.TheVariants as key
 use Rattle.vrp_text.specs.declared.error.TextError.{TextError}
-use Rattle.vrp_text_lexer.specs.declared.fault.FileLineFault.{FileLineFault}
-use Rattle.vrp_text_lexer.specs.declared.fault.FileLineFault.TheVariants.{UnknownKeyword, Unsupported, Repeated}
-use Rattle.vrp_text_lexer.specs.declared.keyword.Keyword.{Keyword}
-use Rattle.vrp_text_lexer.specs.declared.keyword.Keyword.TheVariants as keyword
-use Rattle.vrp_text_lexer.specs.declared.value.WeightKind.{WeightKind}
-use Rattle.vrp_text_lexer.specs.declared.value.WeightFormat.{WeightFormat}
+use Rattle.vrp_text.specs.declared.lexer.fault.FileLineFault.{FileLineFault}
+use Rattle.vrp_text.specs.declared.lexer.fault.FileLineFault.TheVariants.{UnknownKeyword, Unsupported, Repeated}
+use Rattle.vrp_text.specs.declared.lexer.keyword.Keyword.{Keyword}
+use Rattle.vrp_text.specs.declared.lexer.keyword.Keyword.TheVariants as keyword
+use Rattle.vrp_text.specs.declared.lexer.value.WeightKind.{WeightKind}
+use Rattle.vrp_text.specs.declared.lexer.value.WeightFormat.{WeightFormat}
 
 abbrev pub is_same_key : Key → Option Keyword → Bool
 is_same_key key None = false

@@ -5,8 +5,8 @@ ghost use Rattle.vrp_text.specs.Inner.Answered.{FailsWith};
 ghost use Rattle.vrp_text.specs.Inner.InMemory.{complete_in};
 
 use crate::error::TextError;
+use crate::lexer::Key;
 use vrp_model::{Layout, MAX_NODES, Metric};
-use vrp_text_lexer::Key;
 
 // The number that ends a list of depots.
 const LAST_DEPOT: i64 = -1;

@@ -3,10 +3,10 @@ ghost use Rattle.std.specs.Prelude.{◌≡◌};
 ghost use Rattle.vrp_text.specs.Refusal.{refusal_of};
 ghost use Rattle.vrp_text.specs.declared.error.TextError.TheVariants.{OutOfMemory};
 
+use crate::lexer::Key;
 use std::alloc::{AllocError, AllocFailed};
 use thiserror::Error;
 use vrp_model::{InstanceError, NoMemory};
-use vrp_text_lexer::Key;
 
 /// Why a file is refused. Lines are numbered from 1.
 #[derive(Clone, Copy, Debug, PartialEq, Eq, Error)]

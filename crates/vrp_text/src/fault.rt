@@ -3,7 +3,7 @@ ghost use Rattle.std.specs.Prelude.{◌≡◌};
 ghost use Rattle.vrp_text.specs.Section.{at_line};
 
 use crate::error::TextError;
-use vrp_text_lexer::FileLineFault;
+use crate::lexer::FileLineFault;
 
 /// The fault on the line of this number.
 pub(crate) fn at_line(line: u32, fault: FileLineFault) -> TextError

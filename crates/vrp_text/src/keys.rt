@@ -1,9 +1,9 @@
 //! The keys of a file's lines.
 ghost use Rattle.std.specs.Prelude.{◌≡◌, ◌<◌};
-ghost use Rattle.vrp_text_lexer.specs.Keyword.{rank};
+ghost use Rattle.vrp_text.specs.Keyword.{rank};
 
+use crate::lexer::Key;
 use std::marker::Model;
-use vrp_text_lexer::Key;
 
 // The number of keys.
 const KEYS: usize = 9;
@@ -25,9 +25,9 @@ impl Model for Keys {
 
 impl Keys {
     ghost use Rattle.std.specs.Prelude.{◌≡◌, false, not};
-    ghost use Rattle.vrp_text_lexer.specs.Keyword.{rank};
+    ghost use Rattle.vrp_text.specs.Keyword.{rank};
     ghost use Rattle.vrp_text.specs.Inner.MarkedKeys.{AddsKey, is_marked};
-    ghost use Rattle.vrp_text_lexer.specs.declared.key.Key.{Key};
+    ghost use Rattle.vrp_text.specs.declared.lexer.key.Key.{Key};
 
     /// The empty set.
     pub(crate) fn new() -> Self

@@ -7,6 +7,7 @@ mod fault;
 mod instance;
 mod keys;
 mod law;
+mod lexer;
 mod nodes;
 mod reading;
 mod section;
@@ -15,5 +16,10 @@ mod statements;
 pub use error::TextError;
 pub use instance::read;
 pub use law::{one_meaning, some_meaning};
+pub use lexer::{
+    DataLine, FileLineFault, Heading, Key, Keyword, Lines, MAX_BYTES, MAX_DEMAND, MAX_DIGITS,
+    MAX_NODE, MAX_POWER, MAX_POWER_DIGITS, Tokens, WeightFormat, WeightKind, capacity, dimension,
+    faulty_token, is_blank, keyword_len, keyword_of, number, problem_type, skip_blanks,
+    weight_format, weight_kind, without_colon,
+};
 pub use section::Section;
-pub use vrp_text_lexer::{Key, MAX_BYTES};

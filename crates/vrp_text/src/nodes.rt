@@ -9,10 +9,10 @@ ghost use Rattle.vrp_text.specs.Section.{AreWithin};
 ghost use Rattle.vrp_text.specs.declared.section.Section.TheVariants.{Coordinates};
 
 use crate::error::TextError;
+use crate::lexer::Key;
 use std::alloc::{AllocError, Global};
 use std::marker::Model;
 use vrp_model::MAX_NODES;
-use vrp_text_lexer::Key;
 
 // The nodes given so far.
 #[derive(Drop)]

@@ -3,21 +3,21 @@ ghost use Rattle.std.specs.Prelude.{◌≡◌, ◌≤◌, IfOk, IfErr, OnOk, Err
 ghost use Rattle.vrp_text.specs.Inner.Answered.{FailsWith, RefusesFor};
 ghost use Rattle.vrp_text.specs.Inner.MarkedKeys.{AddsKeyOf};
 ghost use Rattle.vrp_text.specs.Inner.OpenPart.{heading_error, heading_fault, keyword_line_fault, open_part_fault, with_heading, with_open_part};
-ghost use Rattle.vrp_text_lexer.specs.Line.{lines_of, tokens_of};
+ghost use Rattle.vrp_text.specs.Line.{lines_of, tokens_of};
 ghost use Rattle.vrp_text.specs.Meaning.{all_stated, file_line_fault, reading_of};
-ghost use Rattle.vrp_text_lexer.specs.Part.{before_end};
+ghost use Rattle.vrp_text.specs.Part.{before_end};
 ghost use Rattle.vrp_text.specs.Stated.{is_explicit, parts_fault, stated_by};
 ghost use Rattle.vrp_text.specs.Inner.StatedSoFar.{with_keyword};
-ghost use Rattle.vrp_text_lexer.specs.Inner.LinesLeft.{parts_left};
+ghost use Rattle.vrp_text.specs.Inner.LinesLeft.{parts_left};
 ghost use Rattle.vrp_text.specs.Refusal.{Refuses};
 
 use crate::error::TextError;
 use crate::fault::at_line;
 use crate::keys::Keys;
+use crate::lexer::{FileLineFault, Heading, Key, Keyword, Lines, MAX_BYTES};
 use crate::section::{content_of, pass_no_data, read_content};
 use crate::statements::{Statements, no_value, value};
 use std::alloc::Global;
-use vrp_text_lexer::{FileLineFault, Heading, Key, Keyword, Lines, MAX_BYTES};
 
 // Whether the first EDGE_WEIGHT_TYPE of the lines is EXPLICIT.
 fn is_explicit(lines: &mut Lines<'_>) -> bool

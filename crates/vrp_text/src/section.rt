@@ -1,15 +1,15 @@
 //! The sections with numbers that are used.
 ghost use Rattle.std.specs.Prelude.{◌≡◌, IfOk, OnOk, Ok, None};
 ghost use Rattle.vrp_text.specs.Section.{lowest, highest, token_number, content_of, AreWithin, FitContent};
-ghost use Rattle.vrp_text_lexer.specs.Inner.LinesLeft.{parts_left};
+ghost use Rattle.vrp_text.specs.Inner.LinesLeft.{parts_left};
 ghost use Rattle.vrp_text.specs.Inner.Answered.{FailsWith, RefusesFor};
 ghost use Rattle.vrp_text.specs.Inner.NextLines.{next_content_fault, next_data_fault, next_numbers, next_outside_fault, next_used_numbers, text_error, text_fault, token_error, with_text};
 
 use crate::error::TextError;
 use crate::fault::at_line;
+use crate::lexer::{FileLineFault, Key, Keyword, Lines, MAX_DEMAND, MAX_NODE, Tokens, number};
 use std::alloc::Global;
 use vrp_model::{MAX_COORDINATE, MAX_WEIGHT};
-use vrp_text_lexer::{FileLineFault, Key, Keyword, Lines, MAX_DEMAND, MAX_NODE, Tokens, number};
 
 /// A section with numbers that are used.
 #[derive(Clone, Copy, Debug, PartialEq, Eq)]

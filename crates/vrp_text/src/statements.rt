@@ -1,8 +1,8 @@
 //! The statements of a file's keywords and sections so far.
 ghost use Rattle.std.specs.Prelude.{◌≡◌, Ok, Err, IfOk, IfErr, OnOk, OnErr, Some, None, option_map};
-ghost use Rattle.vrp_text_lexer.specs.Line.{tokens_of};
+ghost use Rattle.vrp_text.specs.Line.{tokens_of};
 ghost use Rattle.vrp_text.specs.Stated.{value_fault};
-ghost use Rattle.vrp_text_lexer.specs.Value.{value_of, no_value};
+ghost use Rattle.vrp_text.specs.Value.{value_of, no_value};
 ghost use Rattle.vrp_text.specs.Complete.{complete_of};
 ghost use Rattle.vrp_text.specs.Inner.InMemory.{complete_in, matrix_in, source_in};
 ghost use Rattle.vrp_text.specs.Inner.Answered.{FailsWith};
@@ -10,11 +10,11 @@ ghost use Rattle.vrp_text.specs.Inner.StatedSoFar.{IsInRange, nothing_stated, wi
 
 use crate::complete::{Complete, Source};
 use crate::error::TextError;
-use std::marker::Model;
-use vrp_text_lexer::{
+use crate::lexer::{
     FileLineFault, Key, Tokens, WeightFormat, WeightKind, capacity, dimension, problem_type,
     weight_format, weight_kind,
 };
+use std::marker::Model;
 
 /// The statements, each if it is present.
 #[derive(Drop)]

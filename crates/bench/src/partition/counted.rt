@@ -2,8 +2,7 @@
 use anyhow::Result;
 use std::alloc::AllocError;
 use std::sync::atomic::{AtomicU64, Ordering};
-use vrp_customers::CustomerSet;
-use vrp_model::Unhurried;
+use vrp_model::{CustomerSet, Unhurried};
 use vrp_partition::{Guide, PriceOffer, Route, Task};
 use vrp_simplex::ProgramGuide;
 

@@ -2,7 +2,7 @@
 //! demand; each line after it a route's cost and its customers.
 use anyhow::{Context, Result, ensure};
 use std::alloc::Global;
-use vrp_customers::{CustomerSet, PLACES};
+use vrp_model::{CustomerSet, PLACES};
 use vrp_partition::Route;
 
 /// A pool of routes, and what they are for.

@@ -4,8 +4,7 @@ ghost use Rattle.std.specs.Prelude.{◌≤◌};
 use anyhow::Result;
 use std::alloc::Global;
 use test_fixtures::{Random, with_arcs};
-use vrp_customers::{CustomerSet, PLACES};
-use vrp_model::Instance;
+use vrp_model::{CustomerSet, Instance, PLACES};
 
 /// An instance of one to eight customers, mostly of up to six: symmetric or not, with a limit on trucks or none, with demands of 1, large
 /// ones, or some of 0.

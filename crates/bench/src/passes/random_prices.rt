@@ -6,9 +6,8 @@ use super::random_instance::random_set;
 use anyhow::{Result, bail};
 use std::alloc::Global;
 use test_fixtures::Random;
-use vrp_customers::{CustomerSet, PLACES};
 use vrp_duals::{Duals, EntryRow, SubsetRow};
-use vrp_model::Instance;
+use vrp_model::{CustomerSet, Instance, PLACES};
 use vrp_routes::PlanRange;
 
 /// Dual prices near those of routes of one customer, or far from them, with entry rows that feasible plans in a range obey, and subset rows

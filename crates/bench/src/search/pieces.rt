@@ -10,7 +10,7 @@ ghost use Rattle.vrp_search_tree.specs.Cutting.{IsCutting};
 use std::alloc::Global;
 use vrp_bound::Tables;
 use vrp_model::{Instance, NoMemory};
-use vrp_search::{Cutting, Ended, Local, Piece, search};
+use vrp_search_tree::{Cutting, Ended, Local, Piece, search};
 
 // The number of partial plans of a piece that are looked at before it gets its own tables.
 const FIRST_LOOK: u64 = 5_000;

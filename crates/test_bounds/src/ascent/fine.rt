@@ -3,7 +3,7 @@ use crate::assertion::assert_same;
 use std::alloc::Global;
 use std::process::Abort;
 use test_fixtures::at_points;
-use vrp_bound_ascent::find_prices;
+use vrp_bound_prices::find_prices;
 use vrp_model::{Instance, Watch};
 
 // The capacity, in units of 1.

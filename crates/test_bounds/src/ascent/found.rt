@@ -7,8 +7,7 @@ use std::alloc::Global;
 use std::process::Abort;
 use test_fixtures::{FOUR, at_points, with_arcs};
 use vrp_bound::Tables;
-use vrp_bound_ascent::{FoundPrices, NearLooks, Size, Walks, find_prices};
-use vrp_bound_prices::Relaxation;
+use vrp_bound_prices::{FoundPrices, NearLooks, Relaxation, Size, Walks, find_prices};
 use vrp_model::{Instance, Unhurried, Watch};
 
 #[test]

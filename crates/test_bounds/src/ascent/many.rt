@@ -6,7 +6,7 @@ use crate::assertion::assert_same;
 use std::alloc::Global;
 use std::process::Abort;
 use test_fixtures::{at_points, with_arcs};
-use vrp_bound_ascent::{FoundPrices, find_prices};
+use vrp_bound_prices::{FoundPrices, find_prices};
 use vrp_model::{Instance, Unhurried};
 
 // Customers around the depot, four to a truck. `radial` is half the cost of driving to each of them and back: each plan costs

@@ -3,7 +3,7 @@ use crate::assertion::assert_same;
 use std::alloc::Global;
 use std::process::Abort;
 use test_fixtures::with_arcs;
-use vrp_bound_ascent::{LeastRoutes, NearLooks, Size, UsedArc, WHOLE_TOUR, Walks};
+use vrp_bound_prices::{LeastRoutes, NearLooks, Size, UsedArc, WHOLE_TOUR, Walks};
 use vrp_model::{Instance, NgSets};
 
 // Three customers who demand 1 each; the capacity is 2.

@@ -4,7 +4,7 @@ use crate::walks::slow::Slow;
 use std::alloc::Global;
 use std::process::Abort;
 use test_fixtures::with_arcs;
-use vrp_bound_ascent::{NearLooks, Size, Walks};
+use vrp_bound_prices::{NearLooks, Size, Walks};
 use vrp_model::{Instance, NgSets};
 
 // An instance, and a price for each of its places.

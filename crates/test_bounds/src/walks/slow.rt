@@ -5,7 +5,7 @@ ghost use Rattle.vrp_model.specs.Problem.{place_count};
 use crate::assertion::assert_same;
 use std::alloc::Global;
 use std::process::Abort;
-use vrp_bound_ascent::{NO_WALK, UsedArc, Walks};
+use vrp_bound_prices::{NO_WALK, UsedArc, Walks};
 use vrp_model::Instance;
 
 // More walks than any of these instances has.

@@ -7,7 +7,7 @@ use vrp_command::{
     Options, RequestError, RunError, StartError, Status, end, exit_status, fault_line, run,
 };
 use vrp_model::InstanceError;
-use vrp_plan_read::SolutionError;
+use vrp_plan_text::SolutionError;
 use vrp_text::{Key, TextError};
 
 #[test]

@@ -15,7 +15,7 @@ use vrp_command::{
     Format, NoGate, Options, Request, RequestError, Resources, RunError, StartError, StartFile,
     Status, run_request,
 };
-use vrp_plan_read::SolutionError;
+use vrp_plan_text::SolutionError;
 use vrp_text::TextError;
 
 // The effort of a search.

@@ -7,7 +7,7 @@ use std::test::*;
 use vrp_answer::{Finding, Status};
 use vrp_command_streams::solution_text;
 use vrp_model::{MAX_NODES, Plan};
-use vrp_plan_write::{json_text, picture_text};
+use vrp_plan_text::{json_text, picture_text};
 
 // Read as a solution, the text gives the same plan back.
 #[test]

@@ -8,8 +8,7 @@ use std::process::Abort;
 use std::test::*;
 use vrp_answer::{Finding, Status};
 use vrp_model::{Instance, Plan};
-use vrp_plan_read::Solution;
-use vrp_plan_write::{Context, Points, Settings, picture_text};
+use vrp_plan_text::{Context, Points, Settings, Solution, picture_text};
 
 /// Three customers around a depot that is node 2. The capacity is ten.
 pub(crate) const FOUR: &str =

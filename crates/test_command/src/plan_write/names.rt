@@ -1,6 +1,6 @@
 //! The names of files, in many spellings.
 use std::test::*;
-use vrp_plan_write::name_of;
+use vrp_plan_text::name_of;
 
 // Files, and their names.
 const NAMES: &[(&[u8], Option<&str>)] = &[

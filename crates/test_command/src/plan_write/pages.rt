@@ -6,7 +6,7 @@ use std::alloc::Global;
 use std::process::Abort;
 use std::test::*;
 use vrp_answer::Status;
-use vrp_plan_write::picture_text;
+use vrp_plan_text::picture_text;
 
 // Four places, the bound for a plan of cost 18, the size of its page, and where its two routes are listed. A line of the list
 // has room for 26 letters, which is 3,120 wide, with 700 before it and 400 behind it.

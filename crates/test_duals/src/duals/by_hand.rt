@@ -5,9 +5,8 @@ use crate::assertion::assert_same;
 use std::alloc::Global;
 use std::process::Abort;
 use test_fixtures::with_arcs;
-use vrp_customers::CustomerSet;
 use vrp_duals::{DualFault, Duals, EntryRow, SubsetRow};
-use vrp_model::Instance;
+use vrp_model::{CustomerSet, Instance};
 
 const ONE_DIRECTION: &[u64] = &[0, 3, 9, 4, 8, 0, 2, 7, 5, 6, 0, 1, 9, 3, 8, 0];
 

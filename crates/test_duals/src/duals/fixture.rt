@@ -2,9 +2,8 @@
 
 use std::alloc::Global;
 use std::process::Abort;
-use vrp_customers::{CustomerSet, PLACES};
 use vrp_duals::{Duals, FoldedDuals, RowSet};
-use vrp_model::Instance;
+use vrp_model::{CustomerSet, Instance, PLACES};
 
 /// These places.
 pub(crate) fn set_of(places: &[u16]) -> CustomerSet {

@@ -6,9 +6,8 @@ use crate::assertion::assert_same;
 use std::alloc::Global;
 use std::process::Abort;
 use test_fixtures::{Random, one_each, with_arcs};
-use vrp_customers::CustomerSet;
 use vrp_duals::{Duals, EntryRow, FoldedDuals, SubsetRow};
-use vrp_model::Instance;
+use vrp_model::{CustomerSet, Instance};
 
 // The number of places, the depot among them.
 const PLACES: u16 = 9;

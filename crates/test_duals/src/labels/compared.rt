@@ -8,10 +8,9 @@ use crate::duals::fixture::{folded, route_cost, set_of};
 use std::alloc::Global;
 use std::process::Abort;
 use test_fixtures::{Random, one_each, with_arcs};
-use vrp_customers::CustomerSet;
 use vrp_duals::{Duals, EntryRow, FoldedDuals, SubsetRow};
 use vrp_labels::{Closing, Completions, RouteGraph, close};
-use vrp_model::{Crew, Instance, Unhurried};
+use vrp_model::{Crew, CustomerSet, Instance, Unhurried};
 
 pub(super) const PLACES: usize = 7;
 

@@ -3,9 +3,9 @@
 use crate::duals::fixture::set_of;
 use std::alloc::Global;
 use std::process::Abort;
-use vrp_customers::CustomerSet;
 use vrp_duals::FoldedDuals;
 use vrp_labels::{GraphParts, RouteGraph};
+use vrp_model::CustomerSet;
 
 /// A graph where all arcs are alive, with these demands, and the same near customers at each place.
 pub(super) fn whole_graph(

@@ -6,10 +6,9 @@ use crate::duals::fixture::folded;
 use std::alloc::Global;
 use std::process::Abort;
 use test_fixtures::{in_layout, one_each};
-use vrp_customers::CustomerSet;
 use vrp_duals::Duals;
 use vrp_labels::{Closing, ClosingLimit, Completions, RouteGraph, close};
-use vrp_model::{Crew, Layout, Unhurried, Watch};
+use vrp_model::{Crew, CustomerSet, Layout, Unhurried, Watch};
 
 const PLACES: usize = 256;
 

@@ -15,10 +15,9 @@ use crate::duals::fixture::{folded, folded_in_full, set_of};
 use std::alloc::Global;
 use std::process::Abort;
 use test_fixtures::{Random, one_each, with_arcs};
-use vrp_customers::CustomerSet;
 use vrp_duals::{FoldedDuals, RowSet};
 use vrp_labels::{Closing, Completions, LabelPiles, RouteGraph, close};
-use vrp_model::{Crew, Instance, Unhurried};
+use vrp_model::{Crew, CustomerSet, Instance, Unhurried};
 
 #[test]
 fn one_way_costs(rt: HostRuntime) {

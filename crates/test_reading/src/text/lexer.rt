@@ -1,4 +1,4 @@
-//! Tests of `vrp_text_lexer` by values from outside.
+//! Tests of the lexer of `vrp_text` by values from outside.
 
 mod keyword;
 mod lines;

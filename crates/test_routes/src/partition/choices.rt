@@ -10,8 +10,7 @@ use std::alloc::{AllocError, Global};
 use std::process::Abort;
 use std::thread::Threads;
 use test_fixtures::Random;
-use vrp_customers::{CustomerSet, FleetView, PLACES};
-use vrp_model::Crew;
+use vrp_model::{Crew, CustomerSet, FleetView, PLACES};
 use vrp_partition::{Chosen, Found, Query, Route, Task, all_fit, cheapest_choice, routes_within};
 
 const MUCH: u64 = 1 << 32;

@@ -4,7 +4,7 @@ use crate::assertion::assert_same;
 use crate::sets::{every_place, set_of};
 use std::alloc::Global;
 use std::process::Abort;
-use vrp_customers::PLACES;
+use vrp_model::PLACES;
 use vrp_partition::{
     Cut, PriceOffer, Prices, Route, SCALE, none_negative, reduced_costs, within_gap,
 };

@@ -7,8 +7,7 @@ use std::alloc::Global;
 use std::process::Abort;
 use std::thread::Threads;
 use test_fixtures::{Canonical, FIVE, SQUARE, at_points, canonical_plan, with_arcs};
-use vrp_customers::{CustomerSet, MOST_CUSTOMERS};
-use vrp_model::Instance;
+use vrp_model::{CustomerSet, Instance, MOST_CUSTOMERS};
 use vrp_routes::RoutePool;
 
 const SETUPS: &[Setup<'_>] = &[

@@ -1,6 +1,6 @@
 //! Routes listed by a completion test that knows nothing.
 ghost use Rattle.std.specs.Prelude.{◌≤◌, ◌<◌};
-ghost use Rattle.vrp_customers.specs.declared.customer_set.TheConstants.{PLACES};
+ghost use Rattle.vrp_model.specs.declared.customers.customer_set.TheConstants.{PLACES};
 ghost use Rattle.vrp_model.specs.Problem.{place_count};
 ghost use Rattle.vrp_model.specs.declared.limits.TheConstants.{NO_COST};
 ghost use Rattle.vrp_routes.specs.Range.{plans_within};
@@ -10,8 +10,7 @@ use std::alloc::Global;
 use std::process::Abort;
 use std::sync::atomic::{AtomicU64, Ordering};
 use std::thread::Threads;
-use vrp_customers::CustomerSet;
-use vrp_model::{Crew, Instance, News, Watch};
+use vrp_model::{Crew, CustomerSet, Instance, News, Watch};
 use vrp_routes::{CompletionTest, Listed, RoutePool, can_list, list_routes};
 
 // The test that every beginning passes: only what is too heavy, or has a customer twice, isn't listed. So the list is for plans of any

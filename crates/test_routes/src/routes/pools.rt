@@ -8,8 +8,7 @@ use std::alloc::Global;
 use std::process::Abort;
 use std::thread::Threads;
 use test_fixtures::{FOUR, LINE, at_points, with_arcs};
-use vrp_customers::CustomerSet;
-use vrp_model::Instance;
+use vrp_model::{CustomerSet, Instance};
 use vrp_routes::{Limit, Listed, RoutePool, can_list};
 
 // A route: its customers, its load and its cost.

@@ -9,8 +9,7 @@ use std::process::Abort;
 use std::sync::atomic::{AtomicU64, Ordering};
 use std::thread::Threads;
 use test_fixtures::Random;
-use vrp_customers::{CustomerSet, FleetView, PLACES};
-use vrp_model::{Crew, Watch};
+use vrp_model::{Crew, CustomerSet, FleetView, PLACES, Watch};
 use vrp_partition::{Chosen, Found, Route, Task, all_fit, cheapest_choice};
 use vrp_simplex::ProgramGuide;
 

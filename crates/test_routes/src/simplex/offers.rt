@@ -6,7 +6,7 @@ use crate::sets::set_of;
 use crate::simplex::choices::Until;
 use std::alloc::Global;
 use std::process::Abort;
-use vrp_customers::{FleetView, PLACES};
+use vrp_model::{FleetView, PLACES};
 use vrp_partition::{Guide, Prices, Route, Task, reduced_costs};
 use vrp_simplex::ProgramGuide;
 

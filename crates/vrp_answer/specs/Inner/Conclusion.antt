@@ -7,7 +7,7 @@ use Rattle.vrp_model.specs.Order.{IsBefore}
 use Rattle.vrp_model.specs.Route.{IsPlanOf, PricedPlan}
 use Rattle.vrp_model.specs.Word.{NoneCheaperUnder}
 use Rattle.vrp_search_tree.specs.Cutting.{NumberedWord}
-use Rattle.vrp_search.specs.Search.{NoneBeforeUnder}
+use Rattle.vrp_search_tree.specs.Search.{NoneBeforeUnder}
 use Rattle.vrp_answer.specs.Answer.{IsLeft, IsOwnLow, piece_of}
 use Rattle.vrp_answer.specs.Gatherer.{IsAdded, IsFirstMissing, AnswersAdd, IsMissing}
 use Rattle.vrp_answer.specs.Outcomes.{AreOutcomes, IsOpenPiece, Search}

@@ -1,7 +1,7 @@
 -- A problem that is read together with its file's name for itself.
 use Rattle.std.specs.Prelude.{◌≡◌, ℕ, Option, List}
 use Rattle.vrp_command.specs.Run.{ReadsProblem}
-use Rattle.vrp_plan_write.specs.Name.{name_of}
+use Rattle.vrp_plan_text.specs.Name.{name_of}
 use Rattle.vrp_model.specs.Problem.{Problem}
 use Rattle.vrp_command_request.specs.declared.options.Format.{Format}
 use Rattle.vrp_command_request.specs.declared.options.Format.TheVariants as format

@@ -12,8 +12,8 @@ use Rattle.vrp_command.specs.declared.solving.ReadyAnswer.{ReadyAnswer}
 use Rattle.vrp_command.specs.declared.start.StartFile.{StartFile}
 use Rattle.vrp_command_request.specs.declared.options.Request.{Request}
 use Rattle.vrp_model.specs.Route.{IsPlanOf, PricedPlan}
-use Rattle.vrp_plan_read.specs.declared.solution.Solution.{Solution}
-use Rattle.vrp_plan_write.specs.Json.{ContextOf}
+use Rattle.vrp_plan_text.specs.declared.reading.solution.Solution.{Solution}
+use Rattle.vrp_plan_text.specs.Json.{ContextOf}
 
 -- the plan of a solution, if there is one
 abbrev pub plan_in : Option Solution → Option PricedPlan

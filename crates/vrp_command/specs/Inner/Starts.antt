@@ -2,15 +2,15 @@
 use Rattle.std.specs.Option.{option_and_then, option_map}
 use Rattle.std.specs.Prelude.{◌≡◌, ◌↔◌, ℕ, ◌<◌, IsSomeAnd, IsTrue, Option, Some, List, length, ⊤}
 use Rattle.vrp_command.specs.Program.{BeginsWith, IsFile, start_cost}
-use Rattle.vrp_plan_read.specs.Solution.{GivesPlan, StatesOtherCost, stated_cost}
-use Rattle.vrp_plan_read.specs.declared.solution.Solution.{Solution}
+use Rattle.vrp_plan_text.specs.Solution.{GivesPlan, StatesOtherCost, stated_cost}
+use Rattle.vrp_plan_text.specs.declared.reading.solution.Solution.{Solution}
 use Rattle.vrp_command.specs.declared.start.StartError.{StartError}
 use Rattle.vrp_command.specs.declared.start.StartError.TheVariants as start_fault
 use Rattle.vrp_command.specs.declared.start.StartFile.{StartFile}
-use Rattle.vrp_text_lexer.specs.declared.limits.TheConstants.{MAX_BYTES}
+use Rattle.vrp_text.specs.declared.lexer.limits.TheConstants.{MAX_BYTES}
 use Rattle.vrp_model.specs.Problem.{Problem}
-use Rattle.vrp_plan_read.specs.declared.error.SolutionError.{SolutionError}
-use Rattle.vrp_plan_read.specs.declared.error.SolutionError.TheVariants as solution
+use Rattle.vrp_plan_text.specs.declared.reading.error.SolutionError.{SolutionError}
+use Rattle.vrp_plan_text.specs.declared.reading.error.SolutionError.TheVariants as solution
 use Rattle.vrp_command_streams.specs.Input.{IsInput}
 
 -- the whole file gives the plan of this solution, and states its stated cost

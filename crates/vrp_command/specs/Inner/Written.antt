@@ -17,8 +17,8 @@ use Rattle.vrp_model.specs.Route.{PricedPlan}
 use Rattle.vrp_command_request.specs.declared.options.Request.{Request}
 use Rattle.vrp_command_streams.specs.Fault.{exit_code}
 use Rattle.vrp_command_streams.specs.declared.fault.RunError.TheVariants as fault
-use Rattle.vrp_plan_read.specs.Solution.{StatesOtherCost}
-use Rattle.vrp_plan_read.specs.declared.solution.Solution.{Solution}
+use Rattle.vrp_plan_text.specs.Solution.{StatesOtherCost}
+use Rattle.vrp_plan_text.specs.declared.reading.solution.Solution.{Solution}
 
 -- the request's finding, for the problem of this name and the start plan from its file, was written, and nothing else
 pub record WritesOn {S : Type 0} (request : Request) (name : Option (List ℕ)) (may_stop : Bool) (p : Problem) (unread : S → Option (List ℕ)) (file : Option (StartFile S)) (written_old written_new : Option (List ℕ)) (ended : Status) : Type 0 where

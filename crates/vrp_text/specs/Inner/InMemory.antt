@@ -1,7 +1,7 @@
 -- The statements of a complete file, without their place in memory.
 use Rattle.std.specs.Global.{Vec}
 use Rattle.std.specs.Prelude.{ℤ, Option, option_map, Result, Ok}
-use Rattle.vrp_text_lexer.specs.declared.value.WeightFormat.{WeightFormat}
+use Rattle.vrp_text.specs.declared.lexer.value.WeightFormat.{WeightFormat}
 use Rattle.vrp_text.specs.Complete as text
 use Rattle.vrp_text.specs.Meaning.{or_fault}
 use Rattle.vrp_text.specs.declared.complete.Complete.{Complete}

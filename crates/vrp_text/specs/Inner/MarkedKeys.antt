@@ -1,8 +1,8 @@
 -- A set of keys, as marks.
 use Rattle.std.specs.Prelude.{◌≡◌, ◌||◌, ◌==◌, Bool, false, slice_index_or, Option, List}
-use Rattle.vrp_text_lexer.specs.Keyword.{rank}
-use Rattle.vrp_text_lexer.specs.declared.key.Key.{Key}
-use Rattle.vrp_text_lexer.specs.declared.keyword.Keyword.{Keyword}
+use Rattle.vrp_text.specs.Keyword.{rank}
+use Rattle.vrp_text.specs.declared.lexer.key.Key.{Key}
+use Rattle.vrp_text.specs.declared.lexer.keyword.Keyword.{Keyword}
 use Rattle.vrp_text.specs.Stated.{is_same_key}
 
 -- whether a key is marked; the list has a mark for each key, by its rank

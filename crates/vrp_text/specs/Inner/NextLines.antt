@@ -1,8 +1,8 @@
 -- The numbers in the next data lines, up to the next keyword, and the faults there.
 use Rattle.std.specs.Prelude.{ℕ, ℤ, Option, List, length, ◌++◌}
-use Rattle.vrp_text_lexer.specs.Inner.LinesLeft.{LinesLeft, data_left}
-use Rattle.vrp_text_lexer.specs.Line.{tokens_of}
-use Rattle.vrp_text_lexer.specs.declared.fault.FileLineFault.{FileLineFault}
+use Rattle.vrp_text.specs.Inner.LinesLeft.{LinesLeft, data_left}
+use Rattle.vrp_text.specs.Line.{tokens_of}
+use Rattle.vrp_text.specs.declared.lexer.fault.FileLineFault.{FileLineFault}
 use Rattle.vrp_text.specs.Section.{token_number, fault_of, tokens_fault, on_line, numbers_from, data_fault, data_numbers, outside_fault, content_fault, content_numbers}
 use Rattle.vrp_text.specs.declared.error.TextError.{TextError}
 use Rattle.vrp_text.specs.declared.section.Content.{Content}

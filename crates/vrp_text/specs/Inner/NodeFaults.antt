@@ -1,6 +1,6 @@
 -- Faults of the nodes in a section, and facts about the nodes it gives.
 use Rattle.std.specs.Prelude.{ℕ, ◌≤◌, ◌<◌, ℤ, Option, List, [], length, slice_index}
-use Rattle.vrp_text_lexer.specs.declared.key.Key.TheVariants as key
+use Rattle.vrp_text.specs.declared.lexer.key.Key.TheVariants as key
 use Rattle.vrp_model.specs.Grid.{IsCoordinate}
 use Rattle.vrp_text.specs.Complete.{bad_node, no_node, node_fault, row_nodes}
 use Rattle.vrp_text.specs.declared.error.TextError.{TextError}

@@ -1,10 +1,10 @@
 -- A part that is read up to its keyword: the text behind the keyword and the data lines come next.
 use Rattle.std.specs.Prelude.{ℕ, Bool, Option, List}
-use Rattle.vrp_text_lexer.specs.Inner.LinesLeft.{LinesLeft, data_left}
-use Rattle.vrp_text_lexer.specs.Line.{tokens_of}
-use Rattle.vrp_text_lexer.specs.declared.fault.FileLineFault.{FileLineFault}
-use Rattle.vrp_text_lexer.specs.declared.keyword.Keyword.{Keyword}
-use Rattle.vrp_text_lexer.specs.declared.lines.Heading.{Heading}
+use Rattle.vrp_text.specs.Inner.LinesLeft.{LinesLeft, data_left}
+use Rattle.vrp_text.specs.Line.{tokens_of}
+use Rattle.vrp_text.specs.declared.lexer.fault.FileLineFault.{FileLineFault}
+use Rattle.vrp_text.specs.declared.lexer.keyword.Keyword.{Keyword}
+use Rattle.vrp_text.specs.declared.lexer.lines.Heading.{Heading}
 use Rattle.vrp_text.specs.Inner.MarkedKeys.{is_marked}
 use Rattle.vrp_text.specs.Inner.StatedSoFar.{fault_of_part, with_keyword, with_part}
 use Rattle.vrp_text.specs.Section.{content_of, content_numbers, on_line}

@@ -5,12 +5,12 @@ use Rattle.std.specs.Result.{result_ok}
 use Rattle.vrp_text.specs.Complete.{Complete, Source, Points, Matrix}
 use Rattle.vrp_text.specs.Section.{AreWithin, on_line, content_of, content_fault}
 use Rattle.vrp_text.specs.Stated.{Stated, keyword_fault}
-use Rattle.vrp_text_lexer.specs.Value.{value_of, problem_type, dimension, capacity, weight_kind, weight_format}
-use Rattle.vrp_text_lexer.specs.declared.key.Key.{Key}
-use Rattle.vrp_text_lexer.specs.declared.key.Key.TheVariants as key
+use Rattle.vrp_text.specs.Value.{value_of, problem_type, dimension, capacity, weight_kind, weight_format}
+use Rattle.vrp_text.specs.declared.lexer.key.Key.{Key}
+use Rattle.vrp_text.specs.declared.lexer.key.Key.TheVariants as key
 use Rattle.vrp_text.specs.declared.error.TextError.{TextError}
-use Rattle.vrp_text_lexer.specs.declared.keyword.Keyword.{Keyword}
-use Rattle.vrp_text_lexer.specs.declared.keyword.Keyword.TheVariants as keyword
+use Rattle.vrp_text.specs.declared.lexer.keyword.Keyword.{Keyword}
+use Rattle.vrp_text.specs.declared.lexer.keyword.Keyword.TheVariants as keyword
 use Rattle.vrp_text.specs.declared.section.Section.TheVariants as section
 use Rattle.vrp_model.specs.declared.limits.TheConstants.{MAX_CAPACITY, MAX_NODES}
 

@@ -1,6 +1,6 @@
 //! Which words are keywords.
 use crate::assertion::assert_same;
-use vrp_text_lexer::{Key, Keyword, keyword_of};
+use vrp_text::{Key, Keyword, keyword_of};
 
 const KEYWORDS: &[(&str, Option<Keyword>)] = &[
     ("TYPE", Some(Keyword::Key(Key::Problem))),

@@ -1,7 +1,7 @@
 //! The lines of files.
 use crate::assertion::assert_same;
 use std::process::Abort;
-use vrp_text_lexer::{DataLine, Heading, Key, Keyword, Lines};
+use vrp_text::{DataLine, Heading, Key, Keyword, Lines};
 
 const CAPACITY: Option<Keyword> = Some(Keyword::Key(Key::Capacity));
 

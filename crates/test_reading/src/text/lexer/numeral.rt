@@ -1,6 +1,6 @@
 //! The meaning of numerals, and texts that are not numerals.
 use crate::assertion::assert_same;
-use vrp_text_lexer::{FileLineFault, number};
+use vrp_text::{FileLineFault, number};
 
 const NUMERALS: &[(&str, Result<i64, FileLineFault>)] = &[
     ("67", Ok(67)),

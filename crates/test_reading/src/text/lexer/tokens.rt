@@ -1,7 +1,7 @@
 //! The tokens of texts.
 use crate::assertion::assert_same;
 use std::process::Abort;
-use vrp_text_lexer::Tokens;
+use vrp_text::Tokens;
 
 const TOKENS: &[(&str, [&str; 3])] = &[
     ("", ["", "", ""]),

@@ -1,8 +1,8 @@
 //! The meaning of keywords' values.
 use crate::assertion::assert_same;
 use vrp_model::{Layout, MAX_CAPACITY, MAX_NODES, Metric};
-use vrp_text_lexer::FileLineFault::{BadValue, Unsupported};
-use vrp_text_lexer::{
+use vrp_text::FileLineFault::{BadValue, Unsupported};
+use vrp_text::{
     FileLineFault, WeightFormat, WeightKind, capacity, dimension, problem_type, weight_format,
     weight_kind,
 };

@@ -1,11 +1,11 @@
 use Rattle.std.proofs.Common.{◌≡◌, ◌≤◌, ℕ, Vec, Global, min, arith}
 use Rattle.vrp_canonical.specs.Ordering.{AreOrdered}
-use Rattle.vrp_customers.specs.Fleet.{IsFleet}
+use Rattle.vrp_model.specs.Fleet.{IsFleet}
 use Rattle.vrp_canonical.specs.declared.ordered.ListedRoute.{ListedRoute}
 use Rattle.vrp_canonical.proofs.CanonicalPlans.{bound_follows, canonical_task, narrowed_bound, told}
 use Rattle.vrp_model.specs.Cheapest.{NoneCheaper}
 use Rattle.vrp_model.specs.Problem.{Problem, customers}
-use Rattle.vrp_customers.specs.CustomerSet.{set_of}
+use Rattle.vrp_model.specs.CustomerSet.{set_of}
 use Rattle.vrp_canonical.proofs.canonical.plan_of_choice.Goals as goal
 
 pub plan_by_pass-requires-clause-task : goal.plan_by_pass-requires-clause-task

@@ -1,7 +1,7 @@
 use Rattle.std.proofs.Common.{◌≡◌, ◌+◌, ◌≤◌, ◌∙◌, ℕ, IfSome, Option, Some, List, Vec, Global, ap, map, min, subst, arith}
 use Rattle.vrp_canonical.specs.Ordering.{AreOrdered, route_of}
 use Rattle.vrp_canonical.specs.Whole.{IsWhole}
-use Rattle.vrp_customers.specs.Fleet.{IsFleet}
+use Rattle.vrp_model.specs.Fleet.{IsFleet}
 use Rattle.vrp_canonical.specs.declared.ordered.ListedRoute.{ListedRoute}
 use Rattle.vrp_canonical.specs.declared.residual.Residual.{Residual}
 use Rattle.vrp_canonical.proofs.CanonicalPlans.{bound_follows, narrowed_bound, told}
@@ -11,7 +11,7 @@ use Rattle.vrp_partition.specs.Branching.{IsBestSoFar, IsFound}
 use Rattle.vrp_partition.specs.Choice.{IsCheapest, NoneBelow}
 use Rattle.vrp_partition.specs.declared.route.Route.{Route}
 use Rattle.vrp_partition.specs.declared.search.Found.TheVariants.{Cheapest, Unfinished}
-use Rattle.vrp_customers.specs.CustomerSet.{set_of}
+use Rattle.vrp_model.specs.CustomerSet.{set_of}
 use Rattle.vrp_routes.specs.Pool.{IsPool, RouteOf}
 use Rattle.vrp_canonical.proofs.canonical.plan_of_pool.Goals as goal
 

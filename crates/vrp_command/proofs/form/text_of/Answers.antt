@@ -1,4 +1,4 @@
-use Rattle.vrp_plan_write.proofs.Places.{stops_within}
+use Rattle.vrp_plan_text.proofs.Places.{stops_within}
 use Rattle.vrp_command.proofs.form.text_of.Goals as goal
 
 pub report_text-requires : goal.report_text-requires

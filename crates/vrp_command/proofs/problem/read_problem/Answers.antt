@@ -1,6 +1,6 @@
 use Rattle.std.proofs.Common.{◌∙◌, ap}
 use Rattle.std.proofs.lemmas.Result.{err_from_is_err_and}
-use Rattle.vrp_plan_write.specs.Name.{name_of}
+use Rattle.vrp_plan_text.specs.Name.{name_of}
 use Rattle.vrp_command.specs.Run.{RefusesInput}
 use Rattle.vrp_command.proofs.RefusalLemmas.{on_refusal}
 use Rattle.vrp_command.proofs.problem.read_problem.Goals as goal

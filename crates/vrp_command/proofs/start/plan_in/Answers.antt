@@ -1,5 +1,5 @@
 use Rattle.std.proofs.Common.{◌∙◌, ap, subst, sym}
-use Rattle.vrp_plan_read.specs.Solution.{stated_cost}
+use Rattle.vrp_plan_text.specs.Solution.{stated_cost}
 use Rattle.vrp_command.specs.Program.{OnRefusedStart, RefusesFile}
 use Rattle.vrp_command.specs.declared.start.StartError.{StartError}
 use Rattle.vrp_command.proofs.Starts.{on_refused}

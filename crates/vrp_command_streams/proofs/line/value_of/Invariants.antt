@@ -1,5 +1,5 @@
 use Rattle.std.proofs.Common.{length}
-use Rattle.vrp_text_lexer.specs.Inner.LinesLeft.{parts_left}
+use Rattle.vrp_text.specs.Inner.LinesLeft.{parts_left}
 use Rattle.vrp_command_streams.proofs.line.value_of.Given as goal
 
 abbrev pub decreases-loop-heading : goal.decreases-loop-heading

@@ -1,7 +1,7 @@
 use Rattle.std.proofs.Common.{arith, ap, subst, IfSome}
 use Rattle.std.specs.Int.{bit_at}
 use Rattle.std.proofs.lemmas.Nat.Bits.{bit_at-lt}
-use Rattle.vrp_customers.specs.CustomerSet.{IsFirst}
+use Rattle.vrp_model.specs.CustomerSet.{IsFirst}
 use Rattle.vrp_partition.proofs.LowestBits.{lowest_dropped}
 use Rattle.vrp_partition.proofs.cover.rarest_customer.Goals as goal
 

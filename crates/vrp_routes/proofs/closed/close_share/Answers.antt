@@ -1,5 +1,5 @@
 use Rattle.std.proofs.Common.{◌≡◌, true, List, ℕ, ◌+◌, ◌<◌, [], drop, length, get_or, sym, subst, arith}
-use Rattle.vrp_customers.specs.CustomerSet.{set_of}
+use Rattle.vrp_model.specs.CustomerSet.{set_of}
 use Rattle.vrp_routes.specs.ClosedLevel.{HasPlaces, is_closed_in}
 use Rattle.vrp_routes.specs.Useful.{IsUsefulIn}
 use Rattle.vrp_routes.specs.declared.closed.ClosedLevel.{ClosedLevel}

@@ -2,7 +2,7 @@ use Rattle.std.proofs.Common.{◌≡◌, ◌≤◌, Option, None, Some, [], refl
 use Rattle.std.specs.Prelude.{IfSome, MatchOption}
 use Rattle.vrp_bound.specs.LowerBound.{rounded_up}
 use Rattle.vrp_bound.specs.declared.lower_bound.LowerBound.{LowerBound}
-use Rattle.vrp_bound_ascent.specs.declared.rounds.FoundPrices.{FoundPrices}
+use Rattle.vrp_bound_prices.specs.declared.ascent.rounds.FoundPrices.{FoundPrices}
 use Rattle.vrp_model.specs.Problem.{Problem}
 use Rattle.vrp_model.specs.Word.{NoneCheaperUnder}
 use Rattle.vrp_solver.proofs.ascent_bound.bound_by_ascent.Goals as goal

@@ -6,7 +6,7 @@ use Rattle.vrp_model.specs.Problem.{customers}
 use Rattle.vrp_model.specs.Route.{IsPlanOf}
 use Rattle.vrp_model.proofs.UnservedCustomers.{unserved_are_customers}
 use Rattle.vrp_search_tree.specs.Low.{AreCovered}
-use Rattle.vrp_search.specs.Search.{EndsSearch}
+use Rattle.vrp_search_tree.specs.Search.{EndsSearch}
 use Rattle.vrp_solver.specs.SeatBoard.{floor_of}
 use Rattle.vrp_answer.specs.Outcomes.{EndsPiece, Search}
 use Rattle.vrp_solver.proofs.Floors.{later_itself}

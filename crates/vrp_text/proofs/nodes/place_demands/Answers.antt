@@ -3,7 +3,7 @@ use Rattle.std.proofs.lemmas.Int.{ints}
 use Rattle.std.proofs.lemmas.List.FromFn.{length-map-range_with_len, get_or-map-range_with_len}
 use Rattle.std.specs.Prelude.{unsigned_abs}
 use Rattle.vrp_text.specs.Complete.{row_nodes, row_demands, node_fault}
-use Rattle.vrp_text_lexer.specs.declared.key.Key.TheVariants.{Demand}
+use Rattle.vrp_text.specs.declared.lexer.key.Key.TheVariants.{Demand}
 use Rattle.vrp_text.proofs.NodeLemmas.{place_more, node_refused, all_placed}
 use Rattle.vrp_text.proofs.nodes.place_demands.Goals as goal
 

@@ -5,7 +5,7 @@ use Rattle.std.proofs.lemmas.List.FromFn.{length-map-range_with_len, get_or-map-
 use Rattle.std.proofs.lemmas.List.Elements.{All-set}
 use Rattle.vrp_model.specs.Grid.{IsCoordinate}
 use Rattle.vrp_text.specs.Complete.{row_nodes, row_points, node_fault}
-use Rattle.vrp_text_lexer.specs.declared.key.Key.TheVariants.{NodeCoord}
+use Rattle.vrp_text.specs.declared.lexer.key.Key.TheVariants.{NodeCoord}
 use Rattle.vrp_text.proofs.NodeLemmas.{place_more, node_refused, all_placed, coordinate_at}
 use Rattle.vrp_text.proofs.nodes.place_points.Goals as goal
 

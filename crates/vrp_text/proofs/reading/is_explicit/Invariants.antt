@@ -1,6 +1,6 @@
 use Rattle.std.proofs.Common.{◌≡◌, length}
 use Rattle.vrp_text.specs.Stated.{is_explicit}
-use Rattle.vrp_text_lexer.specs.Inner.LinesLeft.{parts_left}
+use Rattle.vrp_text.specs.Inner.LinesLeft.{parts_left}
 use Rattle.vrp_text.proofs.reading.is_explicit.Given as goal
 
 abbrev pub invariant-loop-heading : goal.invariant-loop-heading

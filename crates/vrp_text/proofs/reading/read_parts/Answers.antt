@@ -1,8 +1,8 @@
 use Rattle.std.proofs.Common.{◌≡◌, ◌+◌, None, sym, ap, ◌∙◌}
 use Rattle.vrp_text.specs.Inner.MarkedKeys.{is_marked}
-use Rattle.vrp_text_lexer.specs.Line.{tokens_of}
+use Rattle.vrp_text.specs.Line.{tokens_of}
 use Rattle.vrp_text.specs.Inner.StatedSoFar.{fault_of_part}
-use Rattle.vrp_text_lexer.specs.Inner.LinesLeft.{parts_left, data_left}
+use Rattle.vrp_text.specs.Inner.LinesLeft.{parts_left, data_left}
 use Rattle.vrp_text.proofs.ReadingLemmas.{one_part_more}
 use Rattle.vrp_text.proofs.reading.read_parts.Goals as goal
 

@@ -1,5 +1,5 @@
 use Rattle.std.proofs.Common.{length}
-use Rattle.vrp_text_lexer.specs.Inner.LinesLeft.{parts_left}
+use Rattle.vrp_text.specs.Inner.LinesLeft.{parts_left}
 use Rattle.vrp_text.proofs.ReadingLemmas.{HasRead}
 use Rattle.vrp_text.proofs.reading.read_parts.Given as goal
 

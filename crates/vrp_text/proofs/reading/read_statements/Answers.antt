@@ -1,9 +1,9 @@
 use Rattle.std.proofs.Common.{◌≡◌, IfOk, List, refl, subst, ◌∙◌}
-use Rattle.vrp_text_lexer.specs.Line.{lines_of}
+use Rattle.vrp_text.specs.Line.{lines_of}
 use Rattle.vrp_text.specs.Meaning.{all_stated}
-use Rattle.vrp_text_lexer.specs.Part.{Part, before_end, parts_from}
+use Rattle.vrp_text.specs.Part.{Part, before_end, parts_from}
 use Rattle.vrp_text.specs.Stated.{Stated, is_explicit, stated_by}
-use Rattle.vrp_text_lexer.specs.Inner.LinesLeft.{parts_left}
+use Rattle.vrp_text.specs.Inner.LinesLeft.{parts_left}
 use Rattle.vrp_text.proofs.reading.read_statements.Goals as goal
 
 pub returns-clause-read : goal.returns-clause-read

@@ -1,5 +1,5 @@
 use Rattle.std.proofs.Common.{length}
-use Rattle.vrp_text_lexer.specs.Line.{tokens_of}
+use Rattle.vrp_text.specs.Line.{tokens_of}
 use Rattle.vrp_text.proofs.SectionLemmas.{ReadsTokens}
 use Rattle.vrp_text.proofs.section.read_line.Given as goal
 

@@ -1,5 +1,5 @@
-use Rattle.vrp_text_lexer.specs.Inner.LinesLeft.{data_left}
-use Rattle.vrp_text_lexer.specs.Line.{tokens_of}
+use Rattle.vrp_text.specs.Inner.LinesLeft.{data_left}
+use Rattle.vrp_text.specs.Line.{tokens_of}
 use Rattle.vrp_text.proofs.SectionLemmas.{one_line_more, data_within, lines_end}
 use Rattle.vrp_text.proofs.section.read_numbers.Goals as goal
 

@@ -3,7 +3,7 @@ use Rattle.std.specs.List.{AllPairs}
 use Rattle.std.specs.List.Sorted.{IsPermutation}
 use Rattle.std.proofs.lemmas.List.{length-map}
 use Rattle.vrp_canonical.specs.Ordering.{AreMarked, AreOrdered, route_of, stops_of}
-use Rattle.vrp_customers.specs.Fleet.{IsFleet}
+use Rattle.vrp_model.specs.Fleet.{IsFleet}
 use Rattle.vrp_canonical.specs.declared.ordered.ListedRoute.{ListedRoute}
 use Rattle.vrp_canonical.proofs.CanonicalPlans.{both_told, told}
 use Rattle.vrp_canonical.proofs.OrderedPools.{narrowed_pool}
@@ -11,7 +11,7 @@ use Rattle.vrp_model.specs.Order.{IsEarlier}
 use Rattle.vrp_model.specs.Problem.{Problem, customers}
 use Rattle.vrp_partition.specs.Pricing.{MarksWithin}
 use Rattle.vrp_partition.specs.declared.route.Route.{Route}
-use Rattle.vrp_customers.specs.CustomerSet.{set_of}
+use Rattle.vrp_model.specs.CustomerSet.{set_of}
 use Rattle.vrp_canonical.proofs.narrowed.Narrowing.narrowed_again.Goals as goal
 
 pub returns-then-whole-before-clause-ordered : goal.returns-then-whole-before-clause-ordered

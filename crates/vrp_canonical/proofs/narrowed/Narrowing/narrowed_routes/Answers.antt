@@ -4,14 +4,14 @@ use Rattle.std.specs.List.Sorted.{IsPermutation}
 use Rattle.std.proofs.lemmas.List.{length-map}
 use Rattle.vrp_canonical.specs.Ordering.{AreMarked, AreOrdered, stops_in, stops_of}
 use Rattle.vrp_canonical.specs.Reaching.{IsPoolOf}
-use Rattle.vrp_customers.specs.Fleet.{IsFleet}
+use Rattle.vrp_model.specs.Fleet.{IsFleet}
 use Rattle.vrp_canonical.specs.declared.ordered.ListedRoute.{ListedRoute}
 use Rattle.vrp_canonical.proofs.CanonicalPlans.{both_told, told}
 use Rattle.vrp_canonical.proofs.OrderedPools.{narrowed_pool, whole_pool}
 use Rattle.vrp_model.specs.Order.{IsEarlier}
 use Rattle.vrp_model.specs.Problem.{Problem, customers}
 use Rattle.vrp_partition.specs.Pricing.{MarksWithin}
-use Rattle.vrp_customers.specs.CustomerSet.{set_of}
+use Rattle.vrp_model.specs.CustomerSet.{set_of}
 use Rattle.vrp_routes.specs.Pool.{IsPool}
 use Rattle.vrp_canonical.proofs.narrowed.Narrowing.narrowed_routes.Goals as goal
 

@@ -1,4 +1,0 @@
-use Rattle.test_search.proofs.search.local.assert_least.Goals as goal
-
-pub returns : goal.returns
-returns g c = c.least.ensures.serves c.args.instance.now c.requires

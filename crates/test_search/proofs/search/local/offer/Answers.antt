@@ -1,4 +1,0 @@
-use Rattle.test_search.proofs.search.local.offer.Goals as goal
-
-pub returns : goal.returns
-returns g c = c.offer.ensures.serves c.args.instance.now c.requires.board c.requires.plan

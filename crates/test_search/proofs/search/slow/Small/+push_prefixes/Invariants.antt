@@ -1,4 +1,0 @@
-use Rattle.test_search.proofs.search.slow.Small.+push_prefixes.Given as goal
-
-abbrev pub decreases-push_prefixes : goal.decreases-push_prefixes
-decreases-push_prefixes g l = l.more

@@ -1,5 +1,0 @@
-use Rattle.std.proofs.Common.{◌≡◌}
-use Rattle.vrp_bound_ascent.proofs.rounds.Rounds.ascend.Given as goal
-
-abbrev pub invariant-loop : goal.invariant-loop
-invariant-loop g l = l.self.instance ≡ l.initial.self.instance

@@ -1,3 +1,0 @@
-pub mod Fleets
-pub mod Sets
-pub mod TwoWords

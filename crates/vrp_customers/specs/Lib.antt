@@ -1,3 +1,0 @@
-pub mod CustomerSet
-pub mod Fleet
-pub mod Words

@@ -1,6 +1,0 @@
-use Rattle.std.proofs.Common.{map, take}
-use Rattle.vrp_plan_read.specs.Inner.Served.{AreServed}
-use Rattle.vrp_plan_read.proofs.lawful.faulty_route.Given as goal
-
-abbrev pub invariant-loop-route : goal.invariant-loop-route
-invariant-loop-route l = AreServed l.instance l.served (map (λ route. route.stops.items) (take l.route-index l.routes))

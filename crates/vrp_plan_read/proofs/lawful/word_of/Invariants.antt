@@ -1,7 +1,0 @@
-use Rattle.std.proofs.Common.{◌≡◌, map, take}
-use Rattle.vrp_model.specs.Word.{word_of}
-use Rattle.vrp_plan_read.specs.Inner.Ordered.{turned}
-use Rattle.vrp_plan_read.proofs.lawful.word_of.Given as goal
-
-abbrev pub invariant-loop-route : goal.invariant-loop-route
-invariant-loop-route l = l.word.items ≡ word_of (map (turned l.symmetric) (map (λ route. route.now.stops.items) (take l.route-index l.route-items)))

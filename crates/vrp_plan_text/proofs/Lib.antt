@@ -1,0 +1,14 @@
+pub mod AnsweredPlans
+pub mod Documents
+pub mod FaultyRoutes
+pub mod LineLemmas
+pub mod LinesRead
+pub mod ListingLemmas
+pub mod Names
+pub mod OrderedRoutes
+pub mod Places
+pub mod ReadSolutions
+pub mod RouteLists
+pub mod ServedStops
+pub mod StopLemmas
+pub mod TurnedRoutes

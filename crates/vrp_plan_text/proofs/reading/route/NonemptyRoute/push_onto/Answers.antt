@@ -1,0 +1,7 @@
+use Rattle.std.proofs.Common.{arith}
+use Rattle.std.proofs.lemmas.Grind.{common_steps}
+use Rattle.std.proofs.lemmas.Int.{ints}
+use Rattle.vrp_plan_text.proofs.reading.route.NonemptyRoute.push_onto.Goals as goal
+
+pub returns : goal.returns
+returns c = grind (ints, arith, common_steps)

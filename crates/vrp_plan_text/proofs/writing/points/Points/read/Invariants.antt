@@ -1,0 +1,6 @@
+use Rattle.std.proofs.Common.{length}
+use Rattle.vrp_text.specs.Inner.LinesLeft.{parts_left}
+use Rattle.vrp_plan_text.proofs.writing.points.Points.read.Given as goal
+
+abbrev pub decreases-loop-heading : goal.decreases-loop-heading
+decreases-loop-heading l = length (parts_left l.lines)

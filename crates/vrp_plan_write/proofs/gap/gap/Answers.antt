@@ -1,7 +1,0 @@
-use Rattle.std.proofs.Common.{arith}
-use Rattle.std.proofs.lemmas.Grind.{common_steps}
-use Rattle.std.proofs.lemmas.Int.{ints}
-use Rattle.vrp_plan_write.proofs.gap.gap.Goals as goal
-
-pub returns : goal.returns
-returns c = grind (ints, arith, common_steps)

@@ -1,6 +1,0 @@
-use Rattle.std.proofs.Common.{length}
-use Rattle.vrp_text_lexer.specs.Inner.LinesLeft.{parts_left}
-use Rattle.vrp_plan_write.proofs.points.Points.read.Given as goal
-
-abbrev pub decreases-loop-heading : goal.decreases-loop-heading
-decreases-loop-heading l = length (parts_left l.lines)

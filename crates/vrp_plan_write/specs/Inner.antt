@@ -1,3 +1,0 @@
--- Cited only by inner contracts; no reader has to believe it.
-pub mod Document
-pub mod Routes

@@ -1,2 +1,0 @@
-pub mod SearchProgress
-pub mod WordOrder

@@ -1,3 +1,0 @@
-pub mod Board
-pub mod Inner
-pub mod Search

@@ -1,4 +1,0 @@
-pub mod LineLemmas
-pub mod LongNumerals
-pub mod NumeralLemmas
-pub mod TokenLemmas
