@@ -24,7 +24,7 @@ use crate::residual::{Residual, Sought};
 use crate::searches::search_for;
 use std::alloc::{AllocError, Global};
 use std::thread::Threads;
-use vrp_model::{Crew, Fleet, Instance, NoMemory, Plan, Watch, all_customers};
+use vrp_model::{Crew, Fleet, Instance, News, NoMemory, Plan, Watch, all_customers};
 use vrp_partition::{Chosen, Found, Guide, Route};
 use vrp_routes::{PlanRange, RoutePool};
 use vrp_search_tree::lawful_plan;
@@ -59,9 +59,32 @@ pub fn canonical_plan_of_leaves<R: Threads + Sync, P: Guide + Send, W: Watch + S
     ensures budget { budget.new ≤ budget.old }
 {
     let alloc = crew.alloc;
-    let one = choice_of_leaf(crew, instance, &few, limit, guide, budget)?;
+    // Nothing is known of the plans with many routes.
+    let watch = LeafWatch {
+        watch: crew.watch,
+        elsewhere: 0,
+    };
+    let one = choice_of_leaf(
+        &crew.watched_by(&watch),
+        instance,
+        &few,
+        limit,
+        guide,
+        budget,
+    )?;
     let most = limit.min(one.cost);
-    let other = choice_of_leaf(crew, instance, &many, most, guide, budget)?;
+    let watch = LeafWatch {
+        watch: crew.watch,
+        elsewhere: one.lower_bound,
+    };
+    let other = choice_of_leaf(
+        &crew.watched_by(&watch),
+        instance,
+        &many,
+        most,
+        guide,
+        budget,
+    )?;
     let least = one.cost.min(other.cost);
     let bounds = LeafBounds {
         few: one.lower_bound,
@@ -74,6 +97,41 @@ pub fn canonical_plan_of_leaves<R: Threads + Sync, P: Guide + Send, W: Watch + S
         return undecided(one, other, limit);
     };
     canonical_plan(crew, instance, &pool, least, guide, budget)
+}
+
+// The watch of a search in one leaf. All plans outside it cost at least so much, so what it hears of a lower bound holds for all plans.
+#[derive(Clone, Copy, Debug)]
+struct LeafWatch<'a, W> {
+    watch: &'a W,
+    elsewhere: u64,
+}
+
+impl<W: Watch> Watch for LeafWatch<'_, W> {
+    fn should_continue(&self) -> bool {
+        self.watch.should_continue()
+    }
+
+    fn milliseconds_left(&self) -> Option<u64> {
+        self.watch.milliseconds_left()
+    }
+
+    fn on_news(&self, news: News) {
+        let news = match news {
+            News::Nodes {
+                done,
+                open,
+                incumbent,
+                lower_bound,
+            } => News::Nodes {
+                done,
+                open,
+                incumbent,
+                lower_bound: lower_bound.min(self.elsewhere),
+            },
+            other => other,
+        };
+        self.watch.on_news(news);
+    }
 }
 
 // The cheapest choice of a leaf that a search found. No clause pins the cost: it is one more than the limit if none was found, and it only

@@ -9,7 +9,7 @@ struct Span {
 }
 
 /// Routes, numbered from 0: their stops, one route behind the other.
-#[derive(Debug, Drop)]
+#[derive(Clone, Debug, Drop)]
 pub(crate) struct Columns {
     stops: Vec<u16>,
     spans: Vec<Span>,

@@ -113,6 +113,20 @@ fn wanted(effort: Effort) -> usize {
     }
 }
 
+// The pricer of an instance, with ng-sets by place. None if it can't use the demands.
+fn pricer_of(
+    alloc: Global,
+    instance: &Instance,
+    near: &[CustomerSet],
+) -> Result<Option<RoutePricer>, NoMemory>
+    requires { place_count instance.now ≤ PLACES }
+{
+    let Some(units) = unit_demands(alloc, instance)? else {
+        return Ok(None);
+    };
+    RoutePricer::new(alloc, &units.demands, units.capacity, near)
+}
+
 // What comes after a pricing that found so many columns, unless it was the last that is wanted and found none.
 fn next_effort(effort: Effort, added: usize) -> Effort {
     match effort {
@@ -138,10 +152,7 @@ impl Guide {
     ) -> Result<Option<Guide>, NoMemory>
         requires { place_count instance.now ≤ PLACES }
     {
-        let Some(units) = unit_demands(alloc, instance)? else {
-            return Ok(None);
-        };
-        let Some(pricer) = RoutePricer::new(alloc, &units.demands, units.capacity, near)? else {
+        let Some(pricer) = pricer_of(alloc, instance, near)? else {
             return Ok(None);
         };
         let customers = u64::from(instance.customers());
@@ -162,7 +173,7 @@ impl Guide {
         }))
     }
 
-    /// The guide of a leaf: the same columns and rows, and one row more. None only if there is none for the instance.
+    /// The guide of a leaf: the same program, with its basis, and one row more. None only if there is none for the instance.
     pub(crate) fn of_leaf(
         &self,
         instance: &Instance,
@@ -171,27 +182,26 @@ impl Guide {
     ) -> Result<Option<Guide>, NoMemory>
         requires { place_count instance.now ≤ PLACES }
     {
-        let routes = self.master.routes()?;
-        let (scale, limit) = (self.master.scale, self.limit);
-        let made = Guide::new(
-            self.alloc,
-            instance,
-            scale,
-            limit,
-            near,
-            &routes,
-            self.settings,
-        )?;
-        let Some(mut guide) = made else {
+        let Some(pricer) = pricer_of(self.alloc, instance, near)? else {
             return Ok(None);
         };
-        for row in self.master.rows() {
-            guide.master.add_row(*row)?;
-        }
-        guide.master.add_row(row)?;
-        guide.master.program.regain_feasibility(STEPS_UP)?;
-        guide.priced = self.priced;
-        Ok(Some(guide))
+        let mut master = self.master.copy()?;
+        master.add_row(row)?;
+        master.program.regain_feasibility(STEPS_UP)?;
+        Ok(Some(Guide {
+            alloc: self.alloc,
+            customers: self.customers,
+            fleet: Fleet::of_instance(self.alloc, instance)?,
+            master,
+            pricer,
+            settings: self.settings,
+            limit: self.limit,
+            priced: self.priced,
+            cut_rounds: 0,
+            next_interim: FIRST_INTERIM,
+            tolerance: self.tolerance,
+            has_short_routes: self.has_short_routes,
+        }))
     }
 
     /// The rows of both leaves of plans with at most so many routes, and with more.
@@ -213,13 +223,13 @@ impl Guide {
         self.priced = self.priced.max(other.priced);
     }
 
-    /// The greatest whole number below the number of routes in the present solution, if a branch on it may be made, that number is well between
-    /// two whole numbers, and the bound leaves a gap that is worth two leaves.
-    pub(crate) fn branch_on(&self, may_branch: bool, bound: i64) -> Result<Option<u16>, NoMemory> {
+    /// The greatest whole number below the number of routes in the present solution, if that number is well between two whole numbers, and the
+    /// bound leaves a gap that is worth two leaves: of so many times as much as after the last rows.
+    pub(crate) fn branch_on(&self, times: i64, bound: i64) -> Result<Option<u16>, NoMemory> {
         let limit = self.in_price_units(self.limit);
         let gap = limit.saturating_sub(bound);
         let worth = (limit / 1_000).saturating_mul(i64::from(self.settings.worth_leaves));
-        if !may_branch || gap < worth {
+        if gap < worth.saturating_mul(times) {
             return Ok(None);
         }
         let mut routes: i64 = 0;

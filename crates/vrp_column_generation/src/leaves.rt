@@ -15,7 +15,7 @@ use crate::last_prices::LastPrices;
 use crate::pools::{LeafPools, Pools};
 use crate::program_rows::ProgramRow;
 use crate::progress::Progress;
-use crate::rounds::{AfterRounds, LEAF_ROUNDS, run_rounds};
+use crate::rounds::{AfterRounds, RoundLimits, run_rounds};
 use std::thread::Threads;
 use vrp_model::{Crew, CustomerSet, Instance, NoMemory, Watch};
 use vrp_routes::{Leaves, PlanRange, RoutePool};
@@ -40,8 +40,18 @@ pub(crate) fn generate_leaves<'a, R: Threads + Sync, W: Watch + Sync>(
 {
     let leaves = root.arcs.range().split(fewer);
     let (few_row, many_row) = guide.leaf_rows(fewer);
-    let few = run_leaf(crew, instance, &root, guide, &near, leaves.few, few_row)?;
-    let many = run_leaf(crew, instance, &root, guide, &near, leaves.many, many_row)?;
+    let leaf = Leaf {
+        range: leaves.few,
+        row: few_row,
+        elsewhere: root.bound,
+    };
+    let few = run_leaf(crew, instance, &root, guide, &near, leaf)?;
+    let leaf = Leaf {
+        range: leaves.many,
+        row: many_row,
+        elsewhere: few.progress.bound,
+    };
+    let many = run_leaf(crew, instance, &root, guide, &near, leaf)?;
     let guess = guide.guess();
     let routes = guide.routes()?;
     let bound = few.progress.bound.min(many.progress.bound);
@@ -65,31 +75,39 @@ pub(crate) fn generate_leaves<'a, R: Threads + Sync, W: Watch + Sync>(
     })
 }
 
-// What comes of rounds in one leaf, for plans in this range, with this row more than at the root.
+// A leaf: its plans, the row that its program has beside the root's, and what all other plans cost at least.
+#[derive(Clone, Copy)]
+struct Leaf {
+    range: PlanRange,
+    row: ProgramRow,
+    elsewhere: u64,
+}
+
+// What comes of rounds in one leaf.
 fn run_leaf<'a, R: Threads + Sync, W: Watch + Sync>(
     crew: &Crew<'_, R, W>,
     instance: &'a Instance,
     root: &Progress<'a>,
     guide: &mut Guide,
     near: &[CustomerSet],
-    range: PlanRange,
-    row: ProgramRow,
+    leaf: Leaf,
 ) -> Result<AfterRounds<'a>, NoMemory>
     requires few { place_count instance.now ≤ PLACES }
     requires problem { root.now.arcs.problem ≡ instance.now }
-    requires part { IsPart range root.now.arcs.range }
-    ensures arcs { IfOk result (λ last. AreFor root.now.arcs.problem range last.progress.arcs) }
-    ensures pool { IfOk result (λ last. IfSome last.pool (IsPoolIn root.now.arcs.problem range)) }
+    requires part { IsPart leaf.range root.now.arcs.range }
+    ensures arcs { IfOk result (λ last. AreFor root.now.arcs.problem leaf.range last.progress.arcs) }
+    ensures pool { IfOk result (λ last. IfSome last.pool (IsPoolIn root.now.arcs.problem leaf.range)) }
 {
-    let progress = root.part(crew.alloc, range)?;
-    let Some(mut own) = guide.of_leaf(instance, near, row)? else {
+    let progress = root.part(crew.alloc, leaf.range)?;
+    let Some(mut own) = guide.of_leaf(instance, near, leaf.row)? else {
         return Ok(AfterRounds {
             progress,
             pool: None,
             branch: None,
         });
     };
-    let last = run_rounds(crew, instance, progress, &mut own, near, LEAF_ROUNDS);
+    let limits = RoundLimits::of_leaf(leaf.elsewhere);
+    let last = run_rounds(crew, instance, progress, &mut own, near, limits);
     guide.count_labels(&own);
     drop(own);
     last

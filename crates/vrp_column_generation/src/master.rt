@@ -112,6 +112,18 @@ impl Master {
         Ok(master)
     }
 
+    /// A copy, with the program's basis.
+    pub(crate) fn copy(&self) -> Result<Master, NoMemory> {
+        Ok(Master {
+            alloc: self.alloc,
+            customers: self.customers,
+            scale: self.scale,
+            program: self.program.copy()?,
+            columns: self.columns.clone()?,
+            rows: self.rows.clone()?,
+        })
+    }
+
     // The program's rows in which a route counts, each as often as it does.
     fn rows_of(&self, stops: &[u16]) -> Result<Vec<u16>, NoMemory> {
         let mut rows = Vec::with_capacity(self.alloc, stops.len())?;

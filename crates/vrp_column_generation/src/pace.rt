@@ -44,6 +44,11 @@ impl Pace {
         }
     }
 
+    /// Whether the last decision was on the first final prices.
+    pub(crate) fn is_first(&self) -> bool {
+        self.rounds == 1
+    }
+
     /// There are no more rows to add: the next prices are the last.
     pub(crate) fn finish(&mut self) {
         self.is_over = true;

@@ -20,28 +20,47 @@ pub(crate) struct AfterRounds<'a> {
     pub(crate) branch: Option<u16>,
 }
 
-/// How many rounds of subset rows are made, and whether they may end in a branch.
+/// How many rounds of subset rows are made, whether they may end in a branch, and what the plans that aren't sought cost at least.
 #[derive(Clone, Copy, Debug)]
 pub(crate) struct RoundLimits {
-    pub(crate) most: u32,
-    pub(crate) may_branch: bool,
+    most: u32,
+    may_branch: bool,
+    elsewhere: u64,
 }
 
+// As many rounds as it takes in a leaf.
+const LEAF_ROUNDS: u32 = 400;
+
 impl RoundLimits {
-    /// So many rounds at most, and then maybe a branch.
+    /// All plans are sought, in so many rounds at most, and then maybe in two leaves.
     pub(crate) fn of_root(most: u32) -> RoundLimits {
         RoundLimits {
             most,
             may_branch: true,
+            elsewhere: u64::MAX,
         }
     }
-}
 
-/// As many rounds as it takes in a leaf.
-pub(crate) const LEAF_ROUNDS: RoundLimits = RoundLimits {
-    most: 400,
-    may_branch: false,
-};
+    /// The plans of a leaf are sought. All others cost at least so much.
+    pub(crate) fn of_leaf(elsewhere: u64) -> RoundLimits {
+        RoundLimits {
+            most: LEAF_ROUNDS,
+            may_branch: false,
+            elsewhere,
+        }
+    }
+
+    // Whether a branch may come: before the first subset rows, or after the last ones. Then how many times as wide the gap has to be.
+    fn branch_at(&self, is_first: bool, is_last: bool) -> Option<i64> {
+        if !self.may_branch {
+            return None;
+        }
+        if is_last {
+            return Some(1);
+        }
+        if is_first { Some(2) } else { None }
+    }
+}
 
 // What the watch hears of a lower bound: column generation works on one node at a time.
 fn node_news(limit: u64, lower_bound: u64) -> News {
@@ -78,14 +97,18 @@ pub(crate) fn run_rounds<'a, R: Threads + Sync, W: Watch + Sync>(
         let are_final = prices.are_final;
         let decision = guide.decide(&mut pace, bound, are_final);
         let is_last = decision == Decision::End;
-        let branch = guide.branch_on(limits.may_branch && is_last, bound)?;
+        let branch = match limits.branch_at(are_final && pace.is_first(), is_last) {
+            Some(times) => guide.branch_on(times, bound)?,
+            None => None,
+        };
         let after = progress.pass_if_decided(crew, guide, prices, near, decision)?;
         let AfterPass {
             progress: next,
             pool,
         } = after;
-        crew.watch.on_news(node_news(limit, next.bound));
-        if pool.is_some() || is_last {
+        let on_all = next.bound.min(limits.elsewhere);
+        crew.watch.on_news(node_news(limit, on_all));
+        if pool.is_some() || is_last || branch.is_some() {
             return Ok(AfterRounds {
                 progress: next,
                 branch: if pool.is_some() { None } else { branch },

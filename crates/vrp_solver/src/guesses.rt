@@ -110,7 +110,7 @@ fn next_guess(first: u64, most: u64, bound: u64) -> u64
 
 // The percents of the gap that are guessed.
 fn percents(bound: u64, most: u64) -> &'static [u64] {
-    if most.saturating_sub(bound) < most / 1_000 * WIDE_GAP {
+    if most.saturating_sub(bound) < most.saturating_mul(WIDE_GAP) / 1_000 {
         PERCENT
     } else {
         PERCENT_OF_WIDE_GAP
