@@ -9,12 +9,13 @@ use Rattle.vrp_model.specs.Fleet.{IsFleet}
 use Rattle.vrp_canonical.specs.declared.ordered.ListedRoute.{ListedRoute}
 use Rattle.vrp_canonical.specs.declared.residual.Residual.{Residual}
 use Rattle.vrp_canonical.proofs.Answered.{bounded, cheapest_canonical}
+use Rattle.vrp_canonical.proofs.Begun.{canonical_cheapest}
 use Rattle.vrp_model.specs.Cheapest.{NoneCheaper}
 use Rattle.vrp_model.specs.Order.{IsCanonical}
 use Rattle.vrp_model.specs.Problem.{IsProblem, Problem, customers}
 use Rattle.vrp_model.specs.Route.{IsPlanOf, PricedPlan, plan_cost}
 use Rattle.vrp_model.specs.Word.{word_of}
-use Rattle.vrp_model.proofs.CanonicalPlans.{same_routes}
+use Rattle.vrp_model.proofs.CanonicalPlans.{canonical_exists, same_routes}
 use Rattle.vrp_partition.specs.Choice.{IsCheapest, NoneBelow}
 use Rattle.vrp_partition.specs.declared.route.Route.{Route}
 use Rattle.vrp_model.specs.CustomerSet.{set_of}
@@ -47,6 +48,23 @@ canonical_task p limit narrowed ordered chosen unserved trucks found problem are
       plan = plan;
       canonical = canonical;
       cost_is = cost;
+      within = omega arith;
+    }
+
+-- a feasible plan that costs no more than any is as cheap as the canonical one
+pub task_as_cheap : (p : Problem) (ordered : List ListedRoute) (known : PricedPlan) (whole : Residual) → IsProblem p → AreOrdered p whole.most ordered → IsFleet p whole.trucks
+    → whole.unserved ≡ set_of (customers p) → IsPlanOf p known → known.cost ≡ whole.most → NoneCheaper p known.cost
+    → IsTask p whole.most (map stops_of ordered) (map route_of ordered) whole
+task_as_cheap p ordered known whole problem are fleet all is_plan costs least =
+    let (plan, canonical) = canonical_exists p known.routes problem is_plan.lawful in
+    record {
+      pool_of = are.pool_of;
+      rising = are.rising;
+      customers_are = all;
+      fleet = fleet;
+      plan = plan;
+      canonical = canonical;
+      cost_is = omega (arith, canonical_cheapest p plan known.routes canonical is_plan.lawful, is_plan.priced, least plan.routes canonical.plan_of.lawful, canonical.plan_of.priced, costs);
       within = omega arith;
     }
 

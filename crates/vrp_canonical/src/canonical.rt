@@ -85,17 +85,17 @@ pub fn canonical_plan<R: Threads + Sync, P: Guide + Send, W: Watch + Sync>(
     found
 }
 
-// A search among the routes of a pool: what each of its steps needs.
+/// A search among the routes of a pool: what each of its steps needs.
 #[derive(Drop)]
-struct PoolSearch<'a, 'b, R, W> {
-    crew: &'a Crew<'b, R, W>,
-    instance: &'a Instance,
-    pool: &'a RoutePool,
+pub(crate) struct PoolSearch<'a, 'b, R, W> {
+    pub(crate) crew: &'a Crew<'b, R, W>,
+    pub(crate) instance: &'a Instance,
+    pub(crate) pool: &'a RoutePool,
     // The pool's routes as a choice sees them.
-    routes: &'a [Route],
-    fleet: &'a Fleet,
+    pub(crate) routes: &'a [Route],
+    pub(crate) fleet: &'a Fleet,
     // All customers, the whole fleet, and the limit for which the pool was listed.
-    whole: Residual,
+    pub(crate) whole: Residual,
 }
 
 // The canonical plan by the cheapest choice among the routes that may be in one within the limit.
@@ -131,8 +131,8 @@ fn plan_of_pool<R: Threads + Sync, P: Guide + Send, W: Watch + Sync>(
     }
 }
 
-// What narrows the routes of a search.
-fn narrowing_of<'a, R, W: Watch>(search: &PoolSearch<'a, '_, R, W>) -> Narrowing<'a, W> {
+/// What narrows the routes of a search.
+pub(crate) fn narrowing_of<'a, R, W: Watch>(search: &PoolSearch<'a, '_, R, W>) -> Narrowing<'a, W> {
     Narrowing {
         alloc: search.crew.alloc,
         watch: search.crew.watch,
@@ -216,7 +216,10 @@ fn plan_of_choice<R: Threads + Sync, P: Guide + Send, W: Watch + Sync>(
     let narrowing = narrowing_of(search);
     let left = narrowing.narrowed_again(guide, ordered, &search.whole, &whole, budget)?;
     let plan = match left {
-        Some(left) => plan_by_pass(search, guide, left, &chosen, &whole, budget)?,
+        Some(left) => {
+            let known = chosen.routes.as_slice();
+            plan_by_pass(search, guide, left, known, &whole, budget)?
+        }
         None => None,
     };
     match plan {
@@ -250,8 +253,8 @@ fn none_within(limit: u64) -> Result<RoutesOutcome, NoMemory>
     })
 }
 
-// The whole problem: all customers, the whole fleet, and the cost limit.
-fn whole_problem(instance: &Instance, trucks: u8, most: u64) -> Residual
+/// The whole problem: all customers, the whole fleet, and the cost limit.
+pub(crate) fn whole_problem(instance: &Instance, trucks: u8, most: u64) -> Residual
     requires few { place_count instance.now ≤ PLACES }
     requires fleet { IsFleet instance.now trucks }
     ensures customers { result.unserved ≡ set_of (customers instance.now) }
@@ -267,12 +270,12 @@ fn whole_problem(instance: &Instance, trucks: u8, most: u64) -> Residual
     }
 }
 
-// The canonical plan, whose routes are among these, by one pass over them. The cheapest choice answers some questions by itself.
-fn plan_by_pass<R: Threads + Sync, P: Guide + Send, W: Watch + Sync>(
+/// The canonical plan, whose routes are among these, by one pass over them. A known choice answers some questions by itself.
+pub(crate) fn plan_by_pass<R: Threads + Sync, P: Guide + Send, W: Watch + Sync>(
     search: &PoolSearch<'_, '_, R, W>,
     guide: &P,
     ordered: Vec<ListedRoute>,
-    chosen: &Chosen,
+    known: &[Route],
     whole: &Residual,
     budget: &mut u64,
 ) -> Result<Option<Plan>, NoMemory>
@@ -284,7 +287,7 @@ fn plan_by_pass<R: Threads + Sync, P: Guide + Send, W: Watch + Sync>(
         watch: search.crew.watch,
     };
     let crew = search.crew.watched_by(&quiet);
-    let known = Vec::from_slice(crew.alloc, chosen.routes.as_slice())?;
+    let known = Vec::from_slice(crew.alloc, known)?;
     let mut searches = Searches::new(&crew, guide, search.fleet, *budget, known);
     let found = plan_among(
         crew.alloc,

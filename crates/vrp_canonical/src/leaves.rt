@@ -17,7 +17,8 @@ ghost use Rattle.vrp_partition.specs.declared.route.Route.{Route};
 ghost use Rattle.vrp_routes.specs.Pool.{IsPool, IsPoolIn};
 ghost use Rattle.vrp_routes.specs.Range.{HaveAll, plans_within};
 
-use crate::canonical::{RoutesOutcome, canonical_plan};
+use crate::canonical::RoutesOutcome;
+use crate::known_cost::canonical_plan_as_cheap;
 use crate::narrowed::Narrowing;
 use crate::ordered::{by_stops, chosen_routes, word_of_choice};
 use crate::residual::{Residual, Sought};
@@ -36,6 +37,13 @@ pub struct LeafPool {
     pub pool: RoutePool,
 }
 
+/// The guides of both leaves' searches.
+#[derive(Clone, Copy)]
+pub struct LeafGuides<'a, P> {
+    pub few: &'a P,
+    pub many: &'a P,
+}
+
 /// The canonical plan of an instance, from the pools of two leaves, which together have all plans that cost no more than a limit. The
 /// cheapest choice is sought in the leaf of few routes, and then in that of many, as cheap as the first. Then the plan is sought in the
 /// pool of the leaf that has a choice of the least cost, or in both pools together if both have one. The search ends unfinished as
@@ -46,7 +54,7 @@ pub fn canonical_plan_of_leaves<R: Threads + Sync, P: Guide + Send, W: Watch + S
     few: LeafPool,
     many: LeafPool,
     limit: u64,
-    guide: &P,
+    guides: LeafGuides<'_, P>,
     budget: &mut u64,
 ) -> Result<RoutesOutcome, NoMemory>
     requires few { place_count instance.now ≤ PLACES }
@@ -64,12 +72,14 @@ pub fn canonical_plan_of_leaves<R: Threads + Sync, P: Guide + Send, W: Watch + S
         watch: crew.watch,
         elsewhere: 0,
     };
+    // Each guide keeps what it learns from its leaf.
+    let mut few_guide = guides.few.fork()?;
     let one = choice_of_leaf(
         &crew.watched_by(&watch),
         instance,
         &few,
         limit,
-        guide,
+        &mut few_guide,
         budget,
     )?;
     let most = limit.min(one.cost);
@@ -77,26 +87,37 @@ pub fn canonical_plan_of_leaves<R: Threads + Sync, P: Guide + Send, W: Watch + S
         watch: crew.watch,
         elsewhere: one.lower_bound,
     };
+    let mut many_guide = guides.many.fork()?;
     let other = choice_of_leaf(
         &crew.watched_by(&watch),
         instance,
         &many,
         most,
-        guide,
+        &mut many_guide,
         budget,
     )?;
-    let least = one.cost.min(other.cost);
     let bounds = LeafBounds {
         few: one.lower_bound,
         many: other.lower_bound,
     };
-    if least > limit || bounds.least() < least {
-        return undecided(one, other, limit);
-    }
-    let Some(pool) = pool_of_leaves(alloc, few, many, &bounds, least)? else {
-        return undecided(one, other, limit);
+    let LeafChoice { plan, routes, .. } = cheaper_choice(one, other);
+    let Some(plan) = plan else {
+        return undecided(None, &bounds, limit);
     };
-    canonical_plan(crew, instance, &pool, least, guide, budget)
+    let cost = plan.cost();
+    if cost > limit || bounds.least() < cost {
+        return undecided(Some(plan), &bounds, limit);
+    }
+    let Some(pool) = pool_of_leaves(alloc, few, many, &bounds, cost)? else {
+        return undecided(Some(plan), &bounds, limit);
+    };
+    let mut guide = if bounds.few > cost {
+        many_guide
+    } else {
+        few_guide
+    };
+    let routes = routes.as_slice();
+    canonical_plan_as_cheap(crew, instance, &pool, plan, routes, &mut guide, budget)
 }
 
 // The watch of a search in one leaf. All plans outside it cost at least so much, so what it hears of a lower bound holds for all plans.
@@ -141,8 +162,17 @@ struct LeafChoice {
     cost: u64,
     // Its plan.
     plan: Option<Plan>,
+    // Its routes, which no clause pins.
+    routes: Vec<Route>,
     // If the canonical plan is in the leaf, it costs no less.
     lower_bound: u64,
+}
+
+// The cheaper of two choices.
+fn cheaper_choice(one: LeafChoice, other: LeafChoice) -> LeafChoice
+    ensures { (p : Problem) → IfSome one.plan (IsPlanOf p) → IfSome other.plan (IsPlanOf p) → IfSome result.plan (IsPlanOf p) }
+{
+    if one.cost <= other.cost { one } else { other }
 }
 
 // For each leaf: if the canonical plan is in it, it costs no less.
@@ -160,19 +190,17 @@ impl LeafBounds {
     }
 }
 
-// An unfinished outcome: the cheaper plan of two leaves, and the lower bound of both, which holds up to the limit alone.
-fn undecided(one: LeafChoice, other: LeafChoice, limit: u64) -> Result<RoutesOutcome, NoMemory>
+// An unfinished outcome: a plan, and the lower bound of both leaves, which holds up to the limit alone.
+fn undecided(
+    better: Option<Plan>,
+    bounds: &LeafBounds,
+    limit: u64,
+) -> Result<RoutesOutcome, NoMemory>
     ensures canonical { IfOk result (IfCanonical (λ _. ⊥)) }
-    ensures better { (p : Problem) → IfSome one.plan (IsPlanOf p) → IfSome other.plan (IsPlanOf p) → IfOk result (IfBetter (IsPlanOf p)) }
-    ensures bound { IfOk result (IfBound (λ bound. (bound ≤ one.lower_bound) × (bound ≤ other.lower_bound) × (bound ≤ limit + 1))) }
+    ensures better { (p : Problem) → IfSome better (IsPlanOf p) → IfOk result (IfBetter (IsPlanOf p)) }
+    ensures bound { IfOk result (IfBound (λ bound. (bound ≤ bounds.now.few) × (bound ≤ bounds.now.many) × (bound ≤ limit + 1))) }
 {
-    let lower_bound = one.lower_bound.min(other.lower_bound);
-    let lower_bound = lower_bound.min(limit.saturating_add(1));
-    let better = if one.cost <= other.cost {
-        one.plan
-    } else {
-        other.plan
-    };
+    let lower_bound = bounds.least().min(limit.saturating_add(1));
     Ok(RoutesOutcome::Unfinished {
         better,
         lower_bound,
@@ -185,7 +213,7 @@ fn choice_of_leaf<R: Threads + Sync, P: Guide + Send, W: Watch>(
     instance: &Instance,
     leaf: &LeafPool,
     most: u64,
-    guide: &P,
+    guide: &mut P,
     budget: &mut u64,
 ) -> Result<LeafChoice, NoMemory>
     requires few { place_count instance.now ≤ PLACES }
@@ -200,7 +228,7 @@ fn choice_of_leaf<R: Threads + Sync, P: Guide + Send, W: Watch>(
     let unserved = all_customers(instance);
     let fleet = Fleet::of_instance(alloc, instance)?;
     let Some(routes) = chosen_routes(alloc, &leaf.pool)? else {
-        return Ok(unknown(most));
+        return Ok(unknown(alloc, most));
     };
     let sought = Sought {
         rest: Residual {
@@ -211,24 +239,26 @@ fn choice_of_leaf<R: Threads + Sync, P: Guide + Send, W: Watch>(
         least_routes: leaf.range.least_routes,
     };
     let Some(found) = choice_for(crew, &fleet, routes.as_slice(), &sought, guide, budget)? else {
-        return Ok(unknown(most));
+        return Ok(unknown(alloc, most));
     };
     let plan = plan_of(alloc, instance, &leaf.pool, routes.as_slice(), &found.best)?;
     Ok(LeafChoice {
         cost: found.best.cost,
         plan,
+        routes: found.best.routes,
         lower_bound: found.lower_bound,
     })
 }
 
 // Nothing is known of a leaf.
-fn unknown(most: u64) -> LeafChoice
+fn unknown(alloc: Global, most: u64) -> LeafChoice
     ensures plan { IfSome result.plan (λ _. ⊥) }
     ensures bound { result.lower_bound ≡ 0 }
 {
     LeafChoice {
         cost: most.saturating_add(1),
         plan: None,
+        routes: Vec::new(alloc),
         lower_bound: 0,
     }
 }
@@ -250,13 +280,13 @@ struct BoundedChoice {
     lower_bound: u64,
 }
 
-// The cheapest choice of routes that is sought, after the routes are narrowed.
+// The cheapest choice of routes that is sought, after the routes are narrowed. The guide keeps what it learns from them.
 fn choice_for<R: Threads + Sync, P: Guide + Send, W: Watch>(
     crew: &Crew<'_, R, W>,
     fleet: &Fleet,
     routes: &[Route],
     sought: &Sought,
-    guide: &P,
+    guide: &mut P,
     budget: &mut u64,
 ) -> Result<Option<BoundedChoice>, NoMemory>
     ensures bound { IfOk result (λ answer. IfSome answer (λ found. NoneBelow routes.now sought.now.rest.unserved sought.now.rest.trucks
@@ -268,13 +298,11 @@ fn choice_for<R: Threads + Sync, P: Guide + Send, W: Watch>(
         watch: crew.watch,
         fleet,
     };
-    // The guide keeps what it learns from the narrowed pool for the search.
-    let mut guide = guide.fork()?;
-    let Some(marks) = narrowing.marks_for(&mut guide, routes, sought, budget)? else {
+    let Some(marks) = narrowing.marks_for(guide, routes, sought, budget)? else {
         return Ok(None);
     };
     let kept = routes_kept(crew.alloc, routes, marks.as_slice())?;
-    let found = search_for(crew, &guide, fleet, kept.as_slice(), sought, budget)?;
+    let found = search_for(crew, guide, fleet, kept.as_slice(), sought, budget)?;
     match found {
         Some(found) => Ok(Some(bounded(found, sought.rest.most))),
         None => Ok(None),

@@ -27,8 +27,8 @@ pub struct Generation<'a> {
     pub bound: u64,
     /// The routes that may be in the canonical plan, if that costs no more than the limit: there if their list is short.
     pub pools: Option<Pools>,
-    /// The last prices, if there are no pools: they list the routes for lower limits. None if no pass was made by final prices: the caller
-    /// stopped it, a limit was met, or pricing can't use the instance's demands.
+    /// The last prices: a choice among the pools begins with them, and without pools they list the routes for lower limits. None if no pass
+    /// was made by final prices: the caller stopped it, a limit was met, or pricing can't use the instance's demands.
     pub prices: Option<LastPrices<'a>>,
     /// The stops of the program's routes, from which column generation may begin again. A route may visit a customer twice. No clause pins
     /// them.
@@ -114,20 +114,18 @@ fn generate<'a, R: Threads + Sync, W: Watch + Sync>(
             generate_leaves(crew, instance, progress, guide, near, fewer)
         }
         None => {
-            let guess = guide.guess();
             let routes = guide.routes()?;
-            Ok(progress.generation(pool, near, guess, routes))
+            Ok(progress.generation(pool, near, routes))
         }
     }
 }
 
 impl<'a> Progress<'a> {
-    /// What column generation leaves after the last pass: the pool, or the last prices with the ng-sets and the guess of a pass by them.
+    /// What column generation leaves after the last pass: the pool, or the last prices with the ng-sets of a pass by them.
     pub(crate) fn generation(
         self,
         pool: Option<RoutePool>,
         near: Vec<CustomerSet>,
-        guess: u64,
         routes: Vec<Vec<u16>>,
     ) -> Generation<'a>
         requires { self.arcs.range ≡ plans_within self.arcs.range.limit }
@@ -137,21 +135,17 @@ impl<'a> Progress<'a> {
             prices ≡ record { problem = self.entry.arcs.problem; limit = self.entry.arcs.range.limit }) }
     {
         let bound = self.bound;
-        if let Some(pool) = pool {
-            return Generation {
-                bound,
-                pools: Some(Pools::Whole(pool)),
-                prices: None,
-                routes,
-            };
-        }
+        let pools = match pool {
+            Some(pool) => Some(Pools::Whole(pool)),
+            None => None,
+        };
         let prices = match self.leaf_prices() {
-            Some(leaf) => Some(LastPrices::new(leaf, None, near, guess)),
+            Some(leaf) => Some(LastPrices::new(leaf, None, near)),
             None => None,
         };
         Generation {
             bound,
-            pools: None,
+            pools,
             prices,
             routes,
         }

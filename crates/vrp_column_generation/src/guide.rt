@@ -37,12 +37,12 @@ pub struct Settings {
     pub worth_leaves: u16,
 }
 
-/// Dual prices, and how far below 0 some route costs by them.
+/// Dual prices, and how far below 0 a route may cost by them.
 #[derive(Drop)]
 pub(crate) struct Prices {
     pub(crate) duals: Duals,
-    // In price units.
-    pub(crate) least: i64,
+    // In price units: what pricing said, and the tolerance at least.
+    pub(crate) depth: u64,
     // Whether neither a route nor a capacity cut would change them.
     pub(crate) are_final: bool,
 }
@@ -329,10 +329,13 @@ impl Guide {
             self.priced = self.priced.saturating_add(routes.labels as u64);
             let added = self.add_columns(instance, &routes)?;
             if added == 0 && effort == last {
-                let least = routes.least().unwrap_or(0);
+                let least = routes
+                    .least()
+                    .unwrap_or(0)
+                    .min(self.tolerance.wrapping_neg());
                 return Ok(Some(Prices {
                     duals,
-                    least,
+                    depth: least.unsigned_abs(),
                     are_final: false,
                 }));
             }
@@ -446,17 +449,9 @@ impl Guide {
 
     /// About what these prices bound, in price units.
     pub(crate) fn bound_by(&self, prices: &Prices) -> i64 {
-        let depth = prices.least.min(self.tolerance.wrapping_neg());
-        let customers = i64::from(self.customers.len());
-        prices
-            .duals
-            .low()
-            .saturating_add(depth.saturating_mul(customers))
-    }
-
-    /// How far below 0, in price units, a pass guesses the cost of a route to be.
-    pub(crate) fn guess(&self) -> u64 {
-        self.tolerance.unsigned_abs()
+        let customers = u64::from(self.customers.len());
+        let loss = prices.depth.saturating_mul(customers);
+        prices.duals.low().saturating_sub_unsigned(loss)
     }
 
     /// What to do with prices that give about this lower bound.
@@ -468,10 +463,10 @@ impl Guide {
         }
     }
 
-    /// What a pass may use.
-    pub(crate) fn pass_limits(&self, decision: Decision) -> PassLimits {
+    /// What a pass by these prices may use. It guesses that no route costs less than pricing said.
+    pub(crate) fn pass_limits(&self, prices: &Prices, decision: Decision) -> PassLimits {
         PassLimits {
-            guess: self.guess(),
+            guess: prices.depth,
             most_labels: self.settings.most_labels,
             most_listed: match decision {
                 Decision::PassAndList | Decision::End => self.settings.enough_listed,

@@ -10,6 +10,7 @@ use crate::leaf_prices::LeafPrices;
 use crate::pools::{LeafPools, Pools};
 use std::marker::Model;
 use std::thread::Threads;
+use vrp_duals::Duals;
 use vrp_model::{Crew, CustomerSet, NoMemory, Watch};
 use vrp_routes::{Leaves, RoutePool};
 
@@ -21,8 +22,6 @@ pub struct LastPrices<'a> {
     other: Option<LeafPrices<'a>>,
     // By place, the customers that a label can remember.
     near: Vec<CustomerSet>,
-    // How far below 0, in price units, the cost of a route is guessed to be.
-    guess: u64,
 }
 
 impl<'a> Model for LastPrices<'a> {
@@ -42,16 +41,23 @@ impl<'a> LastPrices<'a> {
         leaf: LeafPrices<'a>,
         other: Option<LeafPrices<'a>>,
         near: Vec<CustomerSet>,
-        guess: u64,
     ) -> LastPrices<'a>
         requires { HaveAllPlans leaf.arcs.problem leaf.arcs.range.limit leaf.arcs (option_map (λ leaf. leaf.arcs) other) }
         ensures { result ≡ record { problem = leaf.entry.arcs.problem; limit = leaf.entry.arcs.range.limit } }
     {
-        LastPrices {
-            leaf,
-            other,
-            near,
-            guess,
+        LastPrices { leaf, other, near }
+    }
+
+    /// The prices of the first leaf, or those for all plans; no clause pins them.
+    pub fn duals(&self) -> &Duals {
+        self.leaf.duals()
+    }
+
+    /// The prices of the other leaf, if there is one; no clause pins them.
+    pub fn other_duals(&self) -> Option<&Duals> {
+        match &self.other {
+            Some(leaf) => Some(leaf.duals()),
+            None => None,
         }
     }
 
@@ -95,6 +101,6 @@ impl<'a> LastPrices<'a> {
         requires { limit ≤ leaf.now.arcs.range.limit }
         ensures { IfOk result (λ pool. IfSome pool (IsPoolIn leaf.now.arcs.problem (record leaf.now.arcs.range { limit = limit }))) }
     {
-        leaf.routes_within(crew, limit, &self.near, self.guess, settings)
+        leaf.routes_within(crew, limit, &self.near, settings)
     }
 }

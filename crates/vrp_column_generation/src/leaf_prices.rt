@@ -17,18 +17,30 @@ pub(crate) struct LeafPrices<'a> {
     pub(crate) arcs: AliveArcs<'a>,
     duals: Duals,
     bound: u64,
+    // How far below 0, in price units, the cost of a route is guessed to be.
+    guess: u64,
     ghost priced: { AreDualsOf arcs.problem duals },
     ghost bounds: { BoundsPlansIn arcs.problem arcs.range bound },
 }
 
 impl<'a> LeafPrices<'a> {
-    /// The prices for arcs and a bound.
-    pub(crate) fn new(arcs: AliveArcs<'a>, duals: Duals, bound: u64) -> LeafPrices<'a>
+    /// The prices for arcs, a bound, and a guess of how far below 0 the cost of a route may be.
+    pub(crate) fn new(arcs: AliveArcs<'a>, duals: Duals, bound: u64, guess: u64) -> LeafPrices<'a>
         requires duals { AreDualsOf arcs.problem duals }
         requires bound { BoundsPlansIn arcs.problem arcs.range bound }
         ensures { result.arcs ≡ arcs.entry }
     {
-        LeafPrices { arcs, duals, bound }
+        LeafPrices {
+            arcs,
+            duals,
+            bound,
+            guess,
+        }
+    }
+
+    /// The prices.
+    pub(crate) fn duals(&self) -> &Duals {
+        &self.duals
     }
 
     /// The plans of the leaf that cost no more than this.
@@ -48,7 +60,6 @@ impl<'a> LeafPrices<'a> {
         crew: &Crew<'_, R, W>,
         limit: u64,
         near: &[CustomerSet],
-        guess: u64,
         settings: Settings,
     ) -> Result<Option<RoutePool>, NoMemory>
         requires { limit ≤ self.now.arcs.range.limit }
@@ -58,7 +69,14 @@ impl<'a> LeafPrices<'a> {
             return Ok(Some(RoutePool::empty(crew.alloc)));
         }
         let arcs = self.arcs.part(crew.alloc, self.range_within(limit))?;
-        let passed = run_pass(crew, &arcs, &self.duals, near, guess, settings.most_labels)?;
+        let passed = run_pass(
+            crew,
+            &arcs,
+            &self.duals,
+            near,
+            self.guess,
+            settings.most_labels,
+        )?;
         match passed {
             Passed::Closed(pass) => pool_of(crew, pass.labels, settings.most_listed),
             _ => Ok(None),

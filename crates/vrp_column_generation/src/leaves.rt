@@ -52,21 +52,10 @@ pub(crate) fn generate_leaves<'a, R: Threads + Sync, W: Watch + Sync>(
         elsewhere: few.progress.bound,
     };
     let many = run_leaf(crew, instance, &root, guide, &near, leaf)?;
-    let guess = guide.guess();
     let routes = guide.routes()?;
     let bound = few.progress.bound.min(many.progress.bound);
     let pools = pools_of_both(leaves, few.pool, many.pool);
-    if pools.is_some() {
-        drop(root);
-        drop(near);
-        return Ok(Generation {
-            bound,
-            pools,
-            prices: None,
-            routes,
-        });
-    }
-    let prices = prices_of_both(root, few.progress, many.progress, near, guess);
+    let prices = prices_of_both(root, few.progress, many.progress, near);
     Ok(Generation {
         bound,
         pools,
@@ -130,7 +119,6 @@ fn prices_of_both<'a>(
     few: Progress<'a>,
     many: Progress<'a>,
     near: Vec<CustomerSet>,
-    guess: u64,
 ) -> Option<LastPrices<'a>>
     requires all { root.arcs.range ≡ plans_within root.arcs.range.limit }
     requires few { few.arcs.problem ≡ root.arcs.problem }
@@ -141,9 +129,9 @@ fn prices_of_both<'a>(
     ensures { IfSome result (λ prices. prices ≡ record { problem = root.entry.arcs.problem; limit = root.entry.arcs.range.limit }) }
 {
     match (few.leaf_prices(), many.leaf_prices()) {
-        (Some(leaf), Some(other)) => Some(LastPrices::new(leaf, Some(other), near, guess)),
+        (Some(leaf), Some(other)) => Some(LastPrices::new(leaf, Some(other), near)),
         _ => match root.leaf_prices() {
-            Some(leaf) => Some(LastPrices::new(leaf, None, near, guess)),
+            Some(leaf) => Some(LastPrices::new(leaf, None, near)),
             None => None,
         },
     }

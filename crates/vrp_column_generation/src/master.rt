@@ -251,13 +251,12 @@ impl Master {
         Ok(used)
     }
 
-    // The price of a program's row, in price units.
+    // The price of a program's row, in price units. It is rounded down, so no reduced cost falls by that.
     fn price(&self, row: usize) -> i64 {
         let price = self.program.prices().get(row).copied().unwrap_or(0);
         let bits = self.program.price_bits();
         let product = i128::from(price).wrapping_mul(i128::from(self.scale));
-        let half = 1i128.wrapping_shl(bits) >> 1;
-        let rounded = product.wrapping_add(half).wrapping_shr(bits);
+        let rounded = product.wrapping_shr(bits);
         i64::try_from(rounded)
             .unwrap_or(0)
             .clamp(-MOST_PRICE, MOST_PRICE)

@@ -22,6 +22,8 @@ pub(crate) struct Progress<'a> {
     pub(crate) arcs: AliveArcs<'a>,
     pub(crate) bound: u64,
     duals: Option<Duals>,
+    // How far below 0 a route may cost by them, in price units. Nothing rests on it.
+    depth: u64,
     ghost bounds: { BoundsPlansIn arcs.problem arcs.range bound },
     ghost priced: { ForSome duals (AreDualsOf arcs.problem) },
 }
@@ -52,6 +54,7 @@ impl<'a> Progress<'a> {
             arcs,
             bound: 0,
             duals: None,
+            depth: 0,
         }
     }
 
@@ -64,6 +67,7 @@ impl<'a> Progress<'a> {
             arcs: self.arcs.part(alloc, range)?,
             bound: self.bound,
             duals: None,
+            depth: 0,
         })
     }
 
@@ -113,6 +117,7 @@ impl<'a> Progress<'a> {
             arcs,
             bound,
             duals: self.duals,
+            depth: self.depth,
         };
         Ok(AfterPass { progress, pool })
     }
@@ -129,6 +134,7 @@ impl<'a> Progress<'a> {
             arcs: self.arcs,
             bound: self.bound,
             duals: Some(prices.duals),
+            depth: prices.depth,
         }
     }
 
@@ -136,9 +142,14 @@ impl<'a> Progress<'a> {
     pub(crate) fn leaf_prices(self) -> Option<LeafPrices<'a>>
         ensures { IfSome result (λ prices. prices.arcs ≡ self.entry.arcs) }
     {
-        let Progress { arcs, bound, duals } = self;
+        let Progress {
+            arcs,
+            bound,
+            duals,
+            depth,
+        } = self;
         match duals {
-            Some(duals) => Some(LeafPrices::new(arcs, duals, bound)),
+            Some(duals) => Some(LeafPrices::new(arcs, duals, bound, depth)),
             None => None,
         }
     }

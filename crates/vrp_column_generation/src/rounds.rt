@@ -148,7 +148,7 @@ impl<'a> Progress<'a> {
                 pool: None,
             });
         }
-        let limits = guide.pass_limits(decision);
+        let limits = guide.pass_limits(&prices, decision);
         let AfterPass { progress, pool } = self.pass(crew, &prices.duals, near, limits)?;
         guide.drop_columns(progress.arcs.followers())?;
         Ok(AfterPass {

@@ -7,11 +7,12 @@ ghost use Rattle.vrp_labels.specs.Label.{Dominates, IsClosed, IsLabelOf, IsBeyon
 ghost use Rattle.vrp_labels.specs.OnwardBound.{IsBoundTable};
 ghost use Rattle.vrp_labels.specs.Reversal.{AreLeaders};
 
+use crate::digest::Digest;
 use crate::graph::RouteGraph;
 use crate::label::Label;
 use crate::onward::OnwardBound;
 use crate::piles::LabelPiles;
-use crate::runs::{Run, Runs};
+use crate::runs::{PlaceRuns, Runs};
 use std::alloc::AllocError;
 use vrp_model::{Crew, NoMemory, Watch};
 
@@ -57,7 +58,7 @@ pub fn close<R, W: Watch>(
             return Ok(Closing::Met(ClosingLimit::Stopped));
         }
         let mut hand = pending.take(load as usize);
-        hand.sort_unstable_by_key(|label| label.cost);
+        hand.sort_unstable_by_key(|label| (label.at, label.cost));
         let room = most_labels.saturating_sub(held);
         let more = keep_undominated(
             graph,
@@ -100,7 +101,7 @@ fn keep_undominated(
         let at = label.at as usize;
         let pile = kept.get(at);
         if !is_dominated(graph, pile, runs.of(at), label) {
-            runs.note(label, pile.len())?;
+            runs.note(label)?;
             let offered = offer_extensions(graph, onward, pending, label)?;
             kept.push(at, *label)?;
             more = more.saturating_add(offered).saturating_add(1);
@@ -179,35 +180,46 @@ fn is_beyond_gap(graph: &RouteGraph, onward: &OnwardBound, label: &Label) -> boo
 
 // Whether one of the kept labels of its place dominates the label. The newest run is looked at first, since its labels are most like this
 // one.
-fn is_dominated(graph: &RouteGraph, kept: &[Label], runs: &[Run], label: &Label) -> bool
+fn is_dominated(graph: &RouteGraph, kept: &[Label], place: &PlaceRuns, label: &Label) -> bool
     requires { All (λ other. IsLabelOf graph.now other × (other.at ≡ label.now.at)) kept.now }
     ensures { IsTrue result → Any (λ other. Dominates graph.now other label.now) kept.now }
 {
-    let mut end = kept.len();
-    for k in 0..runs.len() {
-        let run = &runs[runs.len() - 1 - k];
+    let digest = Digest::of(label);
+    let mut end = kept.len().min(place.digests.len());
+    for run in place.runs.iter().rev() {
         if run.least_before > label.cost {
             return false;
         }
         let start = run.start.min(end);
-        if run.least <= label.cost && is_dominated_in(graph, &kept[start..end], label) {
-            return true;
+        if run.least <= label.cost {
+            let digests = &place.digests[start..end];
+            if is_dominated_in(graph, &kept[start..end], digests, label, digest) {
+                return true;
+            }
         }
         end = start;
     }
     false
 }
 
-// Whether one of these labels dominates the label, if they come by rising cost.
-fn is_dominated_in(graph: &RouteGraph, run: &[Label], label: &Label) -> bool
+// Whether one of these labels dominates the label, if they come by rising cost. Their digests show most that don't.
+#[inline(always)]
+fn is_dominated_in(
+    graph: &RouteGraph,
+    run: &[Label],
+    digests: &[Digest],
+    label: &Label,
+    digest: Digest,
+) -> bool
     requires { All (λ other. IsLabelOf graph.now other × (other.at ≡ label.now.at)) run.now }
     ensures { IsTrue result → Any (λ other. Dominates graph.now other label.now) run.now }
 {
-    for other in run {
-        if other.cost > label.cost {
+    for k in 0..run.len().min(digests.len()) {
+        let other = digests[k];
+        if other.cost > digest.cost {
             return false;
         }
-        if graph.dominates(other, label) {
+        if other.is_within(digest) && graph.dominates(&run[k], label) {
             return true;
         }
     }

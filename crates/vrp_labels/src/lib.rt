@@ -5,6 +5,7 @@
 mod bands;
 mod closing;
 mod completions;
+mod digest;
 mod dominance;
 mod fixing;
 mod graph;

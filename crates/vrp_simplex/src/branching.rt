@@ -23,10 +23,10 @@ impl RouteProgram {
     /// both branches lose a route. No clause pins them, since they are not trusted.
     pub(crate) fn pair(&self, pool: &[Route]) -> Result<CustomerSet, AllocError> {
         let used = self.used()?;
-        let places = places_of(self.customers);
+        let places = places_of(self.scope.customers);
         let pairs = pair_sums(self.alloc, places, used.as_slice())?;
         let mut ranked = Vec::new(self.alloc);
-        for first in self.customers.iter() {
+        for first in self.scope.customers.iter() {
             self.push_pairs(first, sums_of(pairs.as_slice(), places, first), &mut ranked)?;
         }
         ranked.sort_unstable();
@@ -47,7 +47,7 @@ impl RouteProgram {
     ) -> Result<(), AllocError>
         requires { first < PLACES }
     {
-        for second in self.customers.iter() {
+        for second in self.scope.customers.iter() {
             if second > first {
                 let sum = at(row, usize::from(second));
                 let far = sum.wrapping_sub(MIDDLE).saturating_abs();

@@ -24,6 +24,12 @@ pub(crate) fn in_units(price: i64, bits: u32) -> i64 {
     }
 }
 
+/// A price in our units, from one in units of which so many are a unit of cost.
+pub(crate) fn rescaled(price: i64, scale: u32) -> i64 {
+    let units = wide_product(price, UNIT).wrapping_div(i128::from(scale.max(1)));
+    i64::try_from(units).unwrap_or(0)
+}
+
 /// A product in full width.
 #[inline(always)]
 pub(crate) fn wide_product(left: i64, right: i64) -> i128 {

@@ -4,8 +4,10 @@ use crate::inherited::Inherited;
 use crate::node::{NO_BOUND, Node};
 use crate::program::RouteProgram;
 use crate::progress::Progress;
+use crate::scope::Scope;
 use crate::start::{Start, first_program};
 use std::alloc::{AllocError, Global};
+use vrp_duals::Duals;
 use vrp_model::{CustomerSet, FleetView, Watch};
 use vrp_partition::{Guide, PriceOffer, Route, SCALE, Task};
 
@@ -37,6 +39,12 @@ impl<'a, W: Watch> ProgramGuide<'a, W> {
         }
     }
 
+    /// The guide begins with the prices and the rows that column generation left for the same routes.
+    pub fn begin_with(&mut self, duals: &Duals) -> Result<(), AllocError> {
+        self.last = Some(Inherited::of_duals(self.alloc, duals)?);
+        Ok(())
+    }
+
     /// The numbers of primal and dual steps of the program so far; no clause pins them.
     pub fn steps(&self) -> (u64, u64) {
         match &self.program {
@@ -47,24 +55,15 @@ impl<'a, W: Watch> ProgramGuide<'a, W> {
 
     // A node with the program over its pool.
     fn node(&mut self, pool: &[Route], task: &Task<'_>) -> Result<Node<'a, W>, AllocError> {
-        let Task {
-            customers,
-            least_routes,
-            ..
-        } = *task;
+        let scope = Scope::of_task(task);
         let limit = task.incumbent.saturating_sub(1);
         let mut program = match self.program.take() {
-            Some(program)
-                if program.customers == customers && program.least_routes == least_routes => {
-                program
-            }
+            Some(program) if program.scope == scope => program,
             other => self.first_program(pool, task, other)?,
         };
         let names = program.align(pool)?;
         let (best, best_bound) = match self.last.take() {
-            Some(last) if last.holds_for(customers, least_routes, pool.len()) => {
-                (Some(last.prices), last.bound)
-            }
+            Some(last) if last.holds_for(&scope, pool.len()) => (Some(last.prices), last.bound),
             _ => (None, NO_BOUND),
         };
         Ok(Node {
@@ -98,8 +97,7 @@ impl<'a, W: Watch> ProgramGuide<'a, W> {
         let last = self.last.as_ref();
         let likely = likely.as_slice();
         let start = Start {
-            customers: task.customers,
-            least_routes: task.least_routes,
+            scope: Scope::of_task(task),
             pool,
             likely,
             last,
@@ -149,7 +147,7 @@ impl<W: Watch> Guide for ProgramGuide<'_, W> {
             alloc: self.alloc,
             fleet: self.fleet,
             watch: self.watch,
-            known: Vec::new(self.alloc),
+            known: self.known.clone()?,
             program,
             last,
             progress: Progress::new(false),
@@ -176,7 +174,7 @@ impl<'a, W: Watch> ProgramGuide<'a, W> {
             ..
         } = node;
         let work = program.looked_at.saturating_sub(before);
-        let (customers, least_routes) = (program.customers, program.least_routes);
+        let scope = program.scope;
         let is_stuck = own_bound < best_bound.saturating_sub(UNIT) && !progress.is_root;
         self.progress = progress;
         self.program = if is_stuck { None } else { Some(program) };
@@ -191,8 +189,7 @@ impl<'a, W: Watch> ProgramGuide<'a, W> {
             best_bound
         };
         self.last = Some(Inherited {
-            customers,
-            least_routes,
+            scope,
             count,
             bound,
             prices,

@@ -1,29 +1,39 @@
 //! The inheritance of a node: the prices offered for the node before, with their bound and their cuts.
 use crate::cut::{Cut, CutKind};
+use crate::node::NO_BOUND;
 use crate::row_prices::RowPrices;
+use crate::scope::Scope;
 use std::alloc::{AllocError, Global};
+use vrp_duals::Duals;
 use vrp_model::{CustomerSet, FleetView};
 
-/// Prices offered for a pool of this many routes that serve these customers, and their bound on choices with at least so many routes.
+/// Prices offered for a pool of this many routes, and their bound on the choices in their scope.
 #[derive(Clone, Debug, Drop)]
 pub(crate) struct Inherited {
-    pub(crate) customers: CustomerSet,
-    pub(crate) least_routes: u16,
+    pub(crate) scope: Scope,
     pub(crate) count: usize,
     pub(crate) bound: i64,
     pub(crate) prices: RowPrices,
 }
 
 impl Inherited {
-    /// Whether the bound holds for a pool of this many routes that serve these customers, where a choice has at least so many routes: a
-    /// longer pool is no part of the earlier one.
-    pub(crate) fn holds_for(
-        &self,
-        customers: CustomerSet,
-        least_routes: u16,
-        count: usize,
-    ) -> bool {
-        self.customers == customers && self.least_routes == least_routes && count <= self.count
+    /// The prices of column generation. They bound no pool.
+    pub(crate) fn of_duals(alloc: Global, duals: &Duals) -> Result<Inherited, AllocError> {
+        Ok(Inherited {
+            scope: Scope {
+                customers: CustomerSet::empty(),
+                least_routes: 0,
+                most_routes: 0,
+            },
+            count: 0,
+            bound: NO_BOUND,
+            prices: RowPrices::of_duals(alloc, duals)?,
+        })
+    }
+
+    /// Whether the bound holds for a pool of this many routes and a scope: a longer pool is no part of the earlier one.
+    pub(crate) fn holds_for(&self, scope: &Scope, count: usize) -> bool {
+        self.scope == *scope && count <= self.count
     }
 
     /// The cuts of these prices, restricted to the customers of a new program: subset rows, and sets that more than one truck must visit.

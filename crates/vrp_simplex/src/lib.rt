@@ -13,6 +13,7 @@ mod node;
 mod program;
 mod progress;
 mod row_prices;
+mod scope;
 mod separation;
 mod start;
 mod subset_rows;

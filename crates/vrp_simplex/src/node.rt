@@ -121,8 +121,8 @@ impl<W: Watch> Node<'_, W> {
     // is negative, added to each customer's price no reduced cost is.
     fn price(&mut self, pool: &[Route]) -> Result<i64, AllocError> {
         let prices = RowPrices::new(&self.program)?;
-        let customers = self.program.customers;
-        let sum = prices.sum(customers, self.fleet.trucks);
+        let scope = self.program.scope;
+        let sum = prices.sum(&scope);
         let mark = self.limit.saturating_sub(sum).max(0).saturating_add(UNIT);
         let mut least = 0i64;
         self.reduced.clear();
@@ -132,7 +132,7 @@ impl<W: Watch> Node<'_, W> {
             self.reduced.push(reduced)?;
         }
         self.program.count_looks(pool.len());
-        let lowered = wide_product(least, i64::from(customers.len()));
+        let lowered = wide_product(least, i64::from(scope.customers.len()));
         let bound = i64::try_from(i128::from(sum).wrapping_add(lowered)).unwrap_or(NO_BOUND);
         self.own_bound = self.own_bound.max(bound);
         if self.best.is_none() || bound > self.best_bound {

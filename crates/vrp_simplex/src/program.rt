@@ -1,5 +1,6 @@
 //! The program over the routes of a pool: rows for the customers, each served at least once, and then the rows of cuts.
 use crate::cut::{Cut, CutKind};
+use crate::scope::Scope;
 use crate::separation::Used;
 use std::alloc::{AllocError, Global};
 use vrp_linear_program::{LinearProgram, MOST_ROWS, Settings};
@@ -21,9 +22,7 @@ const COLUMNS_A_LOOK: u64 = 8;
 #[derive(Debug, Drop)]
 pub(crate) struct RouteProgram {
     pub(crate) alloc: Global,
-    pub(crate) customers: CustomerSet,
-    // The least number of routes of a choice that is sought.
-    pub(crate) least_routes: u16,
+    pub(crate) scope: Scope,
     pub(crate) linear: LinearProgram,
     // The routes by the names of their columns, also of those that have no column any more.
     pub(crate) routes: Vec<Route>,
@@ -37,11 +36,10 @@ pub(crate) struct RouteProgram {
 }
 
 impl RouteProgram {
-    /// The program without routes, with at most this many trucks. An artificial column costs as much as the penalty.
+    /// The program of a scope, without routes. An artificial column costs as much as the penalty.
     pub(crate) fn new(
         alloc: Global,
-        customers: CustomerSet,
-        trucks: u8,
+        scope: Scope,
         penalty: i64,
         greatest_cost: i64,
     ) -> Result<RouteProgram, AllocError> {
@@ -50,10 +48,14 @@ impl RouteProgram {
             greatest_cost,
             perturbation: PERTURBATION,
         };
+        let Scope {
+            customers,
+            most_routes,
+            ..
+        } = scope;
         let mut program = RouteProgram {
             alloc,
-            customers,
-            least_routes: 0,
+            scope,
             linear: LinearProgram::new(alloc, customers.len().min(MOST_ROWS), settings)?,
             routes: Vec::new(alloc),
             has_column: Vec::new(alloc),
@@ -62,8 +64,8 @@ impl RouteProgram {
             dual_steps: 0,
             looked_at: 0,
         };
-        if u16::from(trucks) < customers.len() {
-            let kind = CutKind::Trucks(u32::from(trucks));
+        if u16::from(most_routes) < customers.len() {
+            let kind = CutKind::Trucks(u32::from(most_routes));
             program.add_cut(Cut {
                 set: customers,
                 kind,
@@ -76,8 +78,7 @@ impl RouteProgram {
     pub(crate) fn copy(&self) -> Result<RouteProgram, AllocError> {
         Ok(RouteProgram {
             alloc: self.alloc,
-            customers: self.customers,
-            least_routes: self.least_routes,
+            scope: self.scope,
             linear: self.linear.copy()?,
             routes: self.routes.clone()?,
             has_column: self.has_column.clone()?,
@@ -103,7 +104,7 @@ impl RouteProgram {
         };
         let mut rows = Vec::new(self.alloc);
         for customer in route.set.iter() {
-            rows.push(self.customers.rank(customer))?;
+            rows.push(self.scope.customers.rank(customer))?;
         }
         self.push_cut_rows(&mut rows, route.set)?;
         self.linear
@@ -114,7 +115,7 @@ impl RouteProgram {
 
     // Adds the rows of the cuts in which a route counts.
     fn push_cut_rows(&self, rows: &mut Vec<u16>, set: CustomerSet) -> Result<(), AllocError> {
-        let mut row = self.customers.len();
+        let mut row = self.scope.customers.len();
         for cut in &self.cuts {
             if cut.has(set) {
                 rows.push(row)?;
@@ -188,10 +189,10 @@ impl RouteProgram {
 
     /// Removes the rows of cuts that are not tight, except those on the number of routes.
     pub(crate) fn remove_slack_rows(&mut self) -> Result<(), AllocError> {
-        let customers = usize::from(self.customers.len());
+        let customers = usize::from(self.scope.customers.len());
         let mut may_go = vec![in self.alloc; false; customers]?;
         for cut in &self.cuts {
-            may_go.push(cut.set != self.customers)?;
+            may_go.push(cut.set != self.scope.customers)?;
         }
         let gone = self.linear.remove_slack_rows(may_go.as_slice())?;
         self.drop_cuts(gone.as_slice())
@@ -199,7 +200,7 @@ impl RouteProgram {
 
     // Removes the cuts whose rows are gone.
     fn drop_cuts(&mut self, gone: &[u16]) -> Result<(), AllocError> {
-        let mut row = self.customers.len();
+        let mut row = self.scope.customers.len();
         let mut cuts = Vec::with_capacity(self.alloc, self.cuts.len())?;
         for cut in &self.cuts {
             if !gone.contains(&row) {

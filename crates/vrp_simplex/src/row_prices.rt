@@ -1,8 +1,10 @@
 //! The prices of the rows by their customers and cuts: the reduced costs of routes, and the bound.
 use crate::cut::CutKind;
-use crate::fixed_point::{in_units, price_of, wide_product};
+use crate::fixed_point::{in_units, price_of, rescaled, wide_product};
 use crate::program::RouteProgram;
+use crate::scope::Scope;
 use std::alloc::{AllocError, Global};
+use vrp_duals::Duals;
 use vrp_model::{CustomerSet, PLACES};
 use vrp_partition::{Cut, PriceOffer, Route};
 
@@ -33,7 +35,7 @@ impl RowPrices {
             capacity_cuts: Vec::new(program.alloc),
         };
         let bits = program.linear.price_bits();
-        for (customer, &price) in program.customers.iter().zip(program.linear.prices()) {
+        for (customer, &price) in program.scope.customers.iter().zip(program.linear.prices()) {
             let price = in_units(price, bits).clamp(-MOST_DUAL, MOST_DUAL);
             prices.duals[usize::from(customer)] = price;
         }
@@ -42,10 +44,38 @@ impl RowPrices {
         Ok(prices)
     }
 
+    /// The prices that column generation left: those of the customers, of its capacity cuts and of its subset rows with three customers.
+    pub(crate) fn of_duals(alloc: Global, duals: &Duals) -> Result<RowPrices, AllocError> {
+        let mut prices = RowPrices {
+            duals: [SHUT_OUT; PLACES],
+            truck_price: 0,
+            subset_rows: Vec::new(alloc),
+            capacity_cuts: Vec::new(alloc),
+        };
+        let scale = duals.scale();
+        for (dual, &price) in prices.duals.iter_mut().zip(duals.prices()) {
+            *dual = rescaled(price, scale).clamp(-MOST_DUAL, MOST_DUAL);
+        }
+        for entry in duals.entries() {
+            let price = rescaled(entry.price.max(0), scale).unsigned_abs();
+            let kind = CutKind::Capacity(u32::from(entry.count));
+            prices.push_cut(entry.customers, kind, price.min(MOST_CUT_PRICE))?;
+        }
+        for row in duals.rows() {
+            if row.customers.len() == 3 {
+                let price = i64::try_from(row.price).unwrap_or(i64::MAX);
+                let price = rescaled(price, scale).unsigned_abs();
+                prices.push_cut(row.customers, CutKind::SubsetRow, price.min(MOST_CUT_PRICE))?;
+            }
+        }
+        prices.subset_rows.sort_by_key(|cut| u64::MAX - cut.price)?;
+        Ok(prices)
+    }
+
     // Adds the cuts that have a price.
     fn push_cuts(&mut self, program: &RouteProgram) -> Result<(), AllocError> {
         let bits = program.linear.price_bits();
-        let customers = usize::from(program.customers.len());
+        let customers = usize::from(program.scope.customers.len());
         let prices = program.linear.prices().iter().skip(customers);
         for (cut, &price) in program.cuts.iter().zip(prices) {
             let price = cut.size(in_units(price, bits)).min(MOST_CUT_PRICE);
@@ -69,15 +99,18 @@ impl RowPrices {
         Ok(())
     }
 
-    /// What these customers pay at least for so many trucks, in price units, if no reduced cost is negative.
-    pub(crate) fn sum(&self, customers: CustomerSet, trucks: u8) -> i64 {
+    /// What each choice in the scope costs at least, in price units, if no reduced cost is negative.
+    pub(crate) fn sum(&self, scope: &Scope) -> i64 {
         let mut sum = 0i64;
-        for customer in customers.iter() {
+        for customer in scope.customers.iter() {
             sum = sum.saturating_add(self.duals[usize::from(customer)]);
         }
         sum.saturating_add(sum_of(self.capacity_cuts.as_slice()))
             .saturating_sub(sum_of(self.subset_rows.as_slice()))
-            .saturating_sub_unsigned(self.truck_price.saturating_mul(u64::from(trucks)))
+            .saturating_sub_unsigned(
+                self.truck_price
+                    .saturating_mul(u64::from(scope.most_routes)),
+            )
     }
 
     /// The reduced cost of a route, unless it is above this mark.

@@ -30,10 +30,15 @@ impl RouteProgram {
     pub(crate) fn add_broken_cuts(&mut self, fleet: &FleetView<'_>) -> Result<usize, AllocError> {
         let used = self.used()?;
         let mut broken = Vec::new(self.alloc);
-        crate::subset_rows::push_broken(self.alloc, self.customers, used.as_slice(), &mut broken)?;
+        crate::subset_rows::push_broken(
+            self.alloc,
+            self.scope.customers,
+            used.as_slice(),
+            &mut broken,
+        )?;
         crate::capacity_cuts::push_broken(
             self.alloc,
-            self.customers,
+            self.scope.customers,
             used.as_slice(),
             fleet,
             &mut broken,

@@ -3,6 +3,7 @@ use crate::cut::{Cut, CutKind};
 use crate::inherited::{Inherited, trucks_for};
 use crate::program::RouteProgram;
 use crate::row_prices::RowPrices;
+use crate::scope::Scope;
 use std::alloc::{AllocError, Global};
 use vrp_model::{CustomerSet, FleetView};
 use vrp_partition::Route;
@@ -13,9 +14,7 @@ const MOST_FIRST: usize = 4_000;
 /// What a first program is made from.
 #[derive(Clone, Copy)]
 pub(crate) struct Start<'a> {
-    pub(crate) customers: CustomerSet,
-    // The least number of routes of a choice that is sought.
-    pub(crate) least_routes: u16,
+    pub(crate) scope: Scope,
     pub(crate) pool: &'a [Route],
     // The sets of routes that are likely in the basis, sorted.
     pub(crate) likely: &'a [CustomerSet],
@@ -36,7 +35,7 @@ pub(crate) fn first_program(
     let marks = first_marks(alloc, start.pool, start.last.map(|last| &last.prices))?;
     let mut basis = Vec::new(alloc);
     for (route, &is_first) in start.pool.iter().zip(&marks) {
-        let fits = route.set.is_subset(start.customers) && !route.set.is_empty();
+        let fits = route.set.is_subset(start.scope.customers) && !route.set.is_empty();
         let is_likely = fits && start.likely.binary_search(&route.set).is_ok();
         if fits && is_first || is_likely {
             let name = program.name(route)?;
@@ -57,16 +56,16 @@ fn empty_program(
     fleet: &FleetView<'_>,
     start: &Start<'_>,
 ) -> Result<RouteProgram, AllocError> {
-    let customers = start.customers;
+    let scope = start.scope;
+    let customers = scope.customers;
     let dearest = dearest(start.pool);
     // Several times what a choice can cost, where the limit is no limit.
     let most = dearest.saturating_mul(i64::from(customers.len()).saturating_mul(4));
     let limit = i64::try_from(start.limit).unwrap_or(i64::MAX);
     let penalty = limit.min(most).saturating_add(1);
     let greatest = dearest.max(penalty);
-    let mut program = RouteProgram::new(alloc, customers, fleet.trucks, penalty, greatest)?;
-    program.least_routes = start.least_routes;
-    let least = u32::from(start.least_routes);
+    let mut program = RouteProgram::new(alloc, scope, penalty, greatest)?;
+    let least = u32::from(scope.least_routes);
     if least > trucks_for(customers, fleet) {
         let kind = CutKind::Capacity(least);
         program.add_cut(Cut {

@@ -12,17 +12,20 @@ use crate::stage_watch::{StageWatch, crew_of};
 use crate::stages::share_of;
 use std::thread::Threads;
 use vrp_answer::{Event, Gate, Shared, Stage};
-use vrp_canonical::{LeafPool, RoutesOutcome, canonical_plan, canonical_plan_of_leaves};
-use vrp_column_generation::{LeafPools, Pools};
+use vrp_canonical::{
+    LeafGuides, LeafPool, RoutesOutcome, canonical_plan, canonical_plan_of_leaves,
+};
+use vrp_column_generation::{LastPrices, LeafPools, Pools};
 use vrp_model::{Crew, Fleet, Instance, NoMemory, Plan, Watch, route_sets};
 use vrp_simplex::ProgramGuide;
 
 /// The first of the cheapest choices of pools, which were listed for a limit up to the cost of the known plan, by all workers, with the
-/// prices of linear programs as their guide: of one pool, or of both leaves. If no plan costs as little as the limit, the outcome's lower
-/// bound is above it.
+/// prices of linear programs as their guide: of one pool, or of both leaves. The programs begin with the last prices of column generation,
+/// if there are any. If no plan costs as little as the limit, the outcome's lower bound is above it.
 pub(crate) fn chosen_plan<R: Threads + Sync, G: Gate + Sync>(
     shared: &Shared<'_, R, G>,
     pools: Pools,
+    prices: Option<&LastPrices<'_>>,
     limit: u64,
     known: &Plan,
     workers: u32,
@@ -49,9 +52,19 @@ pub(crate) fn chosen_plan<R: Threads + Sync, G: Gate + Sync>(
     let crew = crew_of(shared, workers, &watch);
     let fleet = Fleet::of_instance(shared.alloc, shared.instance)?;
     let sets = route_sets(shared.alloc, known)?;
-    let guide = ProgramGuide::new(shared.alloc, fleet.lent(), sets, &watch);
-    let found = plan_among(&crew, shared.instance, pools, limit, &guide, &mut budget);
-    drop(guide);
+    let mut few = ProgramGuide::new(shared.alloc, fleet.lent(), sets.clone()?, &watch);
+    let mut many = ProgramGuide::new(shared.alloc, fleet.lent(), sets, &watch);
+    if let Some(prices) = prices {
+        few.begin_with(prices.duals())?;
+        many.begin_with(prices.other_duals().unwrap_or(prices.duals()))?;
+    }
+    let guides = LeafGuides {
+        few: &few,
+        many: &many,
+    };
+    let found = plan_among(&crew, shared.instance, pools, limit, guides, &mut budget);
+    drop(few);
+    drop(many);
     drop(fleet);
     found
 }
@@ -62,7 +75,7 @@ fn plan_among<R: Threads + Sync, W: Watch + Sync>(
     instance: &Instance,
     pools: Pools,
     limit: u64,
-    guide: &ProgramGuide<'_, W>,
+    guides: LeafGuides<'_, ProgramGuide<'_, W>>,
     budget: &mut u64,
 ) -> Result<RoutesOutcome, NoMemory>
     requires few { place_count instance.now ≤ PLACES }
@@ -73,7 +86,7 @@ fn plan_among<R: Threads + Sync, W: Watch + Sync>(
 {
     match pools {
         Pools::Whole(pool) => {
-            let found = canonical_plan(crew, instance, &pool, limit, guide, budget);
+            let found = canonical_plan(crew, instance, &pool, limit, guides.few, budget);
             drop(pool);
             found
         }
@@ -86,7 +99,7 @@ fn plan_among<R: Threads + Sync, W: Watch + Sync>(
                 range: leaves.many,
                 pool: many,
             };
-            canonical_plan_of_leaves(crew, instance, few, many, limit, guide, budget)
+            canonical_plan_of_leaves(crew, instance, few, many, limit, guides, budget)
         }
     }
 }

@@ -179,7 +179,8 @@ fn chosen_from<R: Threads + Sync, G: Gate + Sync>(
         .gate
         .on_event(Event::Bound(LowerBound::of_cost(bound)));
     if let Some(pools) = pools {
-        let outcome = chosen_plan(shared, pools, limit, known, workers);
+        let outcome = chosen_plan(shared, pools, prices.as_ref(), limit, known, workers);
+        drop(prices);
         return Ok(with_bound(outcome?, bound));
     }
     match prices {

@@ -69,7 +69,7 @@ pub(crate) fn plan_by_guesses<R: Threads + Sync, G: Gate + Sync>(
             reach = bound + (limit - bound) / 2;
             continue;
         };
-        match chosen_plan(shared, pools, limit, known, workers)? {
+        match chosen_plan(shared, pools, Some(prices), limit, known, workers)? {
             RoutesOutcome::Canonical(plan) => return Ok(RoutesOutcome::Canonical(plan)),
             RoutesOutcome::Unfinished {
                 better,

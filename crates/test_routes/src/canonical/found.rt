@@ -5,7 +5,7 @@ use crate::passes::{Setup, leaf_by_pass, pool_by_pass};
 use std::alloc::Global;
 use std::process::Abort;
 use std::thread::Threads;
-use vrp_canonical::{RoutesOutcome, canonical_plan, canonical_plan_of_leaves};
+use vrp_canonical::{LeafGuides, RoutesOutcome, canonical_plan, canonical_plan_of_leaves};
 use vrp_model::{Crew, Instance, NO_COST, NoMemory};
 use vrp_partition::Guide;
 use vrp_routes::{PlanRange, can_list};
@@ -80,5 +80,9 @@ pub(crate) fn found_by_leaf<R: Abort + Threads + Sync, P: Guide + Send>(
         workers: 2,
         watch: &UNHURRIED.watch,
     };
-    canonical_plan_of_leaves(&crew, instance, few, many, limit, guide, &mut left)
+    let guides = LeafGuides {
+        few: guide,
+        many: guide,
+    };
+    canonical_plan_of_leaves(&crew, instance, few, many, limit, guides, &mut left)
 }

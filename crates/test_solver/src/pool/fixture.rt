@@ -120,11 +120,17 @@ pub(crate) fn four_trucks(rt: &impl Abort, alloc: Global) -> Instance {
     at_points(alloc, E_N22_K4_POINTS, E_N22_K4_DEMANDS, 60).expect(rt, "an instance")
 }
 
-/// Sixty customers at random points, whose demands are all of different sizes from 101 to 160: some eleven fit on one truck.
-pub(crate) fn varied(rt: &impl Abort, alloc: Global) -> Instance {
-    let mut random = Random(1);
+/// Up to sixty customers at random points, whose demands are all of different sizes from 101 to 160.
+pub(crate) fn varied(
+    rt: &impl Abort,
+    alloc: Global,
+    seed: u64,
+    customers: u8,
+    capacity: u64,
+) -> Instance {
+    let mut random = Random(seed);
     let (mut points, mut demands) = (Vec::new(alloc), Vec::new(alloc));
-    for place in 0..61u64 {
+    for place in 0..u64::from(customers) + 1 {
         let point = (
             i64::from(random.next() % 100),
             i64::from(random.next() % 100),
@@ -133,7 +139,7 @@ pub(crate) fn varied(rt: &impl Abort, alloc: Global) -> Instance {
         let demand = if place == 0 { 0 } else { 101 + 23 * place % 60 };
         demands.push(demand).expect(rt, "memory");
     }
-    at_points(alloc, &points, &demands, 1_500).expect(rt, "an instance")
+    at_points(alloc, &points, &demands, capacity).expect(rt, "an instance")
 }
 
 /// The tree, cut into at least this many pieces if it has as many.

@@ -71,10 +71,19 @@ fn assert_by_columns<R: Abort + Threads + Wait + Sync>(
 fn proven_by_columns(rt: HostRuntime) {
     let four = four_trucks(&rt, rt.alloc());
     let ties = grid(&rt, rt.alloc(), (5, 3), 4);
-    let many = varied(&rt, rt.alloc());
+    let many = varied(&rt, rt.alloc(), 1, 60, 1_500);
     for workers in [1, 3] {
         assert_by_columns(&rt, rt.alloc(), &four, workers, 375);
         assert_by_columns(&rt, rt.alloc(), &ties, workers, 212);
         assert_by_columns(&rt, rt.alloc(), &many, workers, 881);
+    }
+}
+
+// Of these, column generation branches on the number of routes: what is told of one leaf isn't told of all plans.
+#[test]
+fn proven_by_leaves(rt: HostRuntime) {
+    for (seed, cost) in [(1, 940), (2, 952), (8, 993)] {
+        let branched = varied(&rt, rt.alloc(), seed, 40, 900);
+        assert_by_columns(&rt, rt.alloc(), &branched, 2, cost);
     }
 }

@@ -127,7 +127,7 @@ impl Gate for Clock {
 // jumps. The search for better plans stops there too, and asks once more. By savings a program outside finds plans that cost 918 to 946.
 #[test]
 fn stages_within_a_time(rt: HostRuntime) {
-    let instance = varied(&rt, rt.alloc());
+    let instance = varied(&rt, rt.alloc(), 1, 60, 1_500);
     let clock = Clock::new();
     let answer = answer_behind(&rt, rt.alloc(), &instance, (1, 64, 20_000_000), &clock);
     clock.begin(END);

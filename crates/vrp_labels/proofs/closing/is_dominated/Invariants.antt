@@ -1,5 +1,5 @@
 use Rattle.std.proofs.Common.{◌≤◌, length}
 use Rattle.vrp_labels.proofs.closing.is_dominated.Given as goal
 
-abbrev pub invariant-loop-k : goal.invariant-loop-k
-invariant-loop-k l = l.end ≤ length l.kept
+abbrev pub invariant-loop-run : goal.invariant-loop-run
+invariant-loop-run l = (l.end ≤ length l.kept) × (l.end ≤ length l.place.digests.items)
