@@ -32,8 +32,8 @@ const MOST_LABELS: usize = 3_000_000;
 // The most routes that a list goes through, in labels: they take less than half a gigabyte.
 const MOST_LISTED: u32 = 5_000_000;
 
-// A list of so many labels takes about a second, and the choice among its routes a few.
-const ENOUGH_LISTED: u32 = 150_000;
+// A list of so many labels takes about a second, and the choice among its routes two or three.
+const ENOUGH_LISTED: u32 = 300_000;
 
 // The rounds of column generation: as many as it takes.
 const ALL_ROUNDS: u32 = 400;
