@@ -47,7 +47,8 @@ impl<W: Watch> Narrowing<'_, W> {
         Ok(ordered)
     }
 
-    /// The routes that may be in a choice within a lower cost limit, in the same order, by one round.
+    /// The routes that may be in a choice within a lower cost limit, in the same order. Half of the budget is kept for what comes after. The
+    /// contract leaves open how much of the rest is spent.
     pub fn narrowed_again<P: Guide>(
         &self,
         guide: &mut P,
@@ -66,10 +67,11 @@ impl<W: Watch> Narrowing<'_, W> {
         }
         let routes = routes_of(self.alloc, ordered.as_slice())?;
         let routes = routes.as_slice();
-        // One round: the guide knows good prices.
-        let mut round = 1.min(*budget);
-        *budget -= round;
-        let Some(marks) = self.marks_within(guide, routes, whole, &mut round)? else {
+        let mut share = (*budget).div_ceil(2);
+        *budget -= share;
+        let found = self.marks_within(guide, routes, whole, &mut share)?;
+        *budget += share;
+        let Some(marks) = found else {
             return Ok(None);
         };
         let kept = kept_routes(self.alloc, ordered.as_slice(), marks.as_slice())?;

@@ -34,7 +34,7 @@ returns-clause-ordered g c =
     let same : c.as_slice-routes.result.now ≡ routes = c.as_slice-routes.ensures.value ∙ c.in_ok-routes.ensures ∙ ap (map route_of) c.as_slice.ensures.value in
     let marked : MarksWithin routes whole.unserved whole.trucks 0 whole.most marks.items =
     subst (λ (rs : List Route). MarksWithin rs whole.unserved whole.trucks 0 whole.most marks.items) same
-    (told c.in_ok-marks.field-0 marks (λ (ms : Vec Bool Global). MarksWithin c.as_slice-routes.result.now whole.unserved whole.trucks 0 whole.most ms.items) c.in-Some.is c.in_ok-marks.ensures.marks) in
+    (told c.in_ok-found.found marks (λ (ms : Vec Bool Global). MarksWithin c.as_slice-routes.result.now whole.unserved whole.trucks 0 whole.most ms.items) c.in-Some.is c.in_ok-found.ensures.marks) in
     both_told c.in_ok-left.left (λ (o : Vec ListedRoute Global). IsPermutation kept.items o.items) (λ (o : Vec ListedRoute Global). AllPairs IsEarlier (map stops_of o.items))
     (λ (o : Vec ListedRoute Global). (p : Problem) → AreOrdered p before.most ordered → IsFleet p whole.trucks → whole.unserved ≡ set_of (customers p) → whole.most ≤ before.most → AreOrdered p whole.most o.items)
     (λ o moved rising. λ p ordered_are fleet unserved within. record {
